@@ -1,0 +1,11 @@
+pub mod Answers
+pub mod Contents
+pub mod Files
+pub mod Filled
+pub mod First
+pub mod Memory
+pub mod Numbers
+pub mod Outside
+pub mod Rules
+pub mod Sinks
+pub mod Streams

@@ -1,0 +1,9 @@
+mod Among
+mod Goes
+mod Keys
+mod Lexing
+mod Named
+mod Parsing
+mod Refusals
+mod Statements
+mod Trees

@@ -1,0 +1,9 @@
+pub mod Cursors
+pub mod Grammar
+pub mod Lexing
+pub mod Names
+pub mod Reads
+pub mod Scopes
+pub mod Source
+pub mod Tokens
+pub mod Words

@@ -1,0 +1,9 @@
+pub mod Call
+pub mod Compiled
+pub mod Course
+pub mod Due
+pub mod Headline
+pub mod Lower
+pub mod Message
+pub mod Texts
+pub mod Words
