@@ -1,0 +1,11 @@
+pub mod Comments
+pub mod First
+pub mod Forms
+pub mod Longest
+pub mod Loop
+pub mod Runs
+pub mod Scanning
+pub mod Spans
+pub mod Splits
+pub mod Tables
+pub mod Utf8
