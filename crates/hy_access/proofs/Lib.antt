@@ -1,0 +1,4 @@
+pub mod Children
+pub mod Trees
+pub mod Walking
+pub mod Ancestors

@@ -1,0 +1,18 @@
+// The names of activations, and how an activation stands.
+
+/// The name of a live activation. It stands for that activation until it ends, and may be given to a later one then.
+#[derive(Clone, Copy, Debug, PartialEq, Eq)]
+pub struct ActId {
+    /// The place at which the activation is kept.
+    pub slot: u32,
+}
+
+/// How an activation stands: it runs, with a caller to which it gives what it hands out or returns, or it is suspended
+/// and has none until it is resumed.
+#[derive(Clone, Copy, Debug, PartialEq, Eq)]
+pub enum Standing {
+    /// It runs. There is no caller only where it was started without one and was never resumed.
+    Running(Option<ActId>),
+    /// It has handed out an access, and waits until it is resumed.
+    Suspended,
+}

@@ -1,0 +1,11 @@
+//! The live activations of a machine, in order of start. `docs/MEMORY.md` says what they are for.
+#![tactic(auto)]
+
+mod acts;
+mod id;
+mod slots;
+#[cfg(test)]
+mod tests;
+
+pub use acts::Acts;
+pub use id::{ActId, Standing};
