@@ -1,0 +1,10 @@
+pub mod Asked
+pub mod Interning
+pub mod Keeping
+pub mod Knowing
+pub mod Reading
+pub mod Replaced
+pub mod Settling
+pub mod Solving
+pub mod Sums
+pub mod Waiting
