@@ -1,0 +1,5 @@
+use Rattle.hy_object.proofs.Spelled as laws
+use Rattle.hy_object.proofs.laws.one_spelling.Goals as goal
+
+pub returns : goal.returns
+returns c = laws.one_spelling
