@@ -1,4 +1,7 @@
 pub mod Denotes
+pub mod FileNames
+pub mod Findings
+pub mod Names
 pub mod Numbering
 pub mod Numbers
 pub mod Parts

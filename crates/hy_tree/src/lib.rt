@@ -6,6 +6,7 @@ mod count;
 mod declaration;
 mod expression;
 mod laws;
+mod meant;
 mod name;
 mod number_declaration;
 mod number_expression;
@@ -14,6 +15,7 @@ mod number_written;
 mod numbering;
 mod operator;
 mod parts;
+pub mod predeclared;
 mod statement;
 #[cfg(test)]
 mod tests;
@@ -25,6 +27,7 @@ pub use declaration::{
 };
 pub use expression::{Arg, Choice, Expr, ExprKind, Link, Step, StepKind};
 pub use laws::{each_node_has_a_number, each_number_is_one_node, numbers_are_in_preorder};
+pub use meant::Meant;
 pub use name::{Name, NameUse};
 pub use number_declaration::number;
 pub use operator::{Arithmetic, Introducer, Mode, Operator, UnaryOperator};

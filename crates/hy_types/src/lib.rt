@@ -7,6 +7,7 @@ mod kinds;
 mod list;
 mod matching;
 mod replacing;
+mod resolved;
 mod sizes;
 mod table;
 #[cfg(test)]
@@ -15,4 +16,5 @@ mod tests;
 pub use kinds::{Ty, TyId};
 pub use list::TyList;
 pub use matching::Found;
+pub use resolved::Resolved;
 pub use table::TyTable;

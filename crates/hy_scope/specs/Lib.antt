@@ -1,0 +1,3 @@
+pub mod FullNames
+pub mod Shown
+pub mod Noted

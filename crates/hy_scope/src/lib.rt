@@ -1,0 +1,25 @@
+//! What each name of a source stands for, and the rules on names. `docs/NAMES.md` has them.
+#![tactic(auto)]
+
+mod around;
+mod blocks;
+mod callable;
+mod declaration;
+mod declared;
+mod expression;
+mod families;
+mod file;
+mod full_name;
+mod laws;
+mod least;
+mod named;
+mod notes;
+mod resolved_names;
+mod statement;
+mod table;
+#[cfg(test)]
+mod tests;
+mod written;
+
+pub use laws::full_names_tell_apart;
+pub use resolved_names::resolve;
