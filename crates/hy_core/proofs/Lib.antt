@@ -1,0 +1,15 @@
+pub mod Values
+pub mod Keys
+pub mod Follows
+pub mod LockStep
+pub mod Ends
+pub mod Sample
+pub mod Equations
+pub mod Carried
+pub mod Logs
+pub mod Memories
+pub mod Typed
+pub mod TypedTalks
+pub mod TypedOperations
+pub mod Paths
+pub mod Stuck

@@ -1,0 +1,22 @@
+//! Core programs and their two meanings: one copies values in and out where a place is lent, the other lends references.
+//! `docs/CORE.md` tells both in words.
+#![tactic(auto)]
+
+mod laws;
+mod log;
+mod memory;
+mod program;
+#[cfg(test)]
+mod tests;
+mod told;
+mod value;
+
+pub use laws::{
+    a_core_is_ready, copying_and_lending_agree, every_run_ends, examples, meanings_agree,
+    one_meaning,
+};
+pub use log::{Key, Spot};
+pub use memory::{Cells, Copies};
+pub use program::{Checked, Core, CoreFun, CoreOp, CorePlace, CoreStep, CoreStmt};
+pub use told::shaped_is_never_stuck;
+pub use value::Value;
