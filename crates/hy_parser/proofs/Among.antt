@@ -9,7 +9,7 @@ use Rattle.hy_base.specs.declared.refusal.Fault.TheVariants.{Refused, NoMemory}
 use Rattle.hy_parser.specs.declared.token.Token.{Token}
 use Rattle.hy_parser.specs.declared.token.TokenKind.TheVariants as kind
 use Rattle.hy_parser.specs.Cursors.{HasName}
-use Rattle.hy_parser.specs.Reads.{Reads, Parses}
+use Rattle.hy_parser.specs.FirstReads.{Reads, Parses}
 use Rattle.hy_parser.specs.Words.{reserved, taken, IsName}
 
 abbrev now : Bor (List ℕ) → List ℕ

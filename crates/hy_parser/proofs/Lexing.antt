@@ -11,7 +11,7 @@ use Rattle.hy_parser.specs.declared.token.TokenKind.{TokenKind}
 use Rattle.hy_parser.specs.declared.token.TokenKind.TheVariants as kind
 use Rattle.hy_parser.specs.declared.token.Mark.{Mark}
 use Rattle.hy_parser.specs.declared.token.Mark.TheVariants as mark
-use Rattle.hy_parser.specs.Tokens.{IsBetween, IsLetter, IsDigit, IsBlank, byte_of, number_of, EndsBefore, IsRun, Spells, IsToken, token, HasTokens, blanks, space, next}
+use Rattle.hy_parser.specs.FirstTokens.{IsBetween, IsLetter, IsDigit, IsBlank, byte_of, number_of, EndsBefore, IsRun, Spells, IsToken, token, HasTokens, blanks, space, next}
 
 -- the first byte of a run
 run_first : (Is : ℕ → Type 0) (run rest : List ℕ) → IsRun Is run rest → (b : ℕ) × (more : List ℕ) × (run ≡ b ∷ more) × Is b

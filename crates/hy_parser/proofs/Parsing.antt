@@ -14,7 +14,7 @@ use Rattle.hy_parser.specs.declared.tree.Stmt.{Stmt}
 use Rattle.hy_parser.specs.declared.tree.Stmt.TheVariants as stmt
 use Rattle.hy_parser.specs.declared.tree.Sum.{Sum}
 use Rattle.hy_parser.specs.Cursors.{Takes, IsOperand, Eats}
-use Rattle.hy_parser.specs.Grammar.{IsWord, IsMark, HasItem, name, number, HasMore, none, more, HasSum, IsBare, HasValue, HasStmt, var, assign, print}
+use Rattle.hy_parser.specs.FirstGrammar.{IsWord, IsMark, HasItem, name, number, HasMore, none, more, HasSum, IsBare, HasValue, HasStmt, var, assign, print}
 use Rattle.hy_parser.specs.Words.{IsName}
 use Rattle.hy_parser.proofs.Goes.{Goes, step, finish}
 

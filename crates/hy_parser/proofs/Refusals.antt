@@ -4,7 +4,7 @@ use Rattle.std.specs.Result.{IsErrAnd}
 use Rattle.hy_base.specs.declared.refusal.Fault.{Fault}
 use Rattle.hy_base.specs.declared.refusal.Fault.TheVariants.{Refused, NoMemory}
 use Rattle.hy_parser.specs.declared.token.Token.{Token}
-use Rattle.hy_parser.specs.Reads.{unbuilt, Reads, Parses}
+use Rattle.hy_parser.specs.FirstReads.{unbuilt, Reads, Parses}
 
 pub refused : {T : Type 0} (Has : T → Type 0) (fault : Fault) → fault ≡ Refused unbuilt.rule unbuilt.span → ((value : T) → Has value → ⊥) → Reads Has (Err fault)
 refused {T} Has fault e none = subst (λ f. Reads {T = T} Has (Err f)) (sym e) (refl, none)

@@ -9,7 +9,7 @@ use Rattle.hy_parser.specs.declared.tree.Stmt.{Stmt}
 use Rattle.hy_parser.specs.declared.tree.Stmt.TheVariants as stmt
 use Rattle.hy_parser.specs.declared.tree.Sum.{Sum}
 use Rattle.hy_parser.specs.Cursors.{HasMark, HasName, HasWord, Takes, IsEnd}
-use Rattle.hy_parser.specs.Grammar.{IsWord, IsMark, NotBefore, HasSum, HasValue, HasStmt, var, assign, print, HasStmts, last, next, HasBody, empty, some, HasProgram, program}
+use Rattle.hy_parser.specs.FirstGrammar.{IsWord, IsMark, NotBefore, HasSum, HasValue, HasStmt, var, assign, print, HasStmts, last, next, HasBody, empty, some, HasProgram, program}
 use Rattle.hy_parser.specs.Words.{IsName}
 use Rattle.hy_parser.proofs.Goes.{Goes, step}
 use Rattle.hy_parser.proofs.Parsing.{word_mark, after_var, after_print, after_name, one_sum, one_stmt, stmt_word}

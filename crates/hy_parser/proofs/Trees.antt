@@ -6,11 +6,11 @@ use Rattle.hy_base.specs.Answers.{Answers}
 use Rattle.hy_base.specs.First.{Refusal, Precedes}
 use Rattle.hy_parser.specs.declared.token.Token.{Token}
 use Rattle.hy_parser.specs.declared.tree.Program.{Program}
-use Rattle.hy_parser.specs.Grammar.{HasProgram}
+use Rattle.hy_parser.specs.FirstGrammar.{HasProgram}
 use Rattle.hy_parser.specs.Names.{IsNamed}
-use Rattle.hy_parser.specs.Reads.{Reads, unbuilt}
+use Rattle.hy_parser.specs.FirstReads.{Reads, unbuilt}
 use Rattle.hy_parser.specs.Source.{IsTree, Breaks}
-use Rattle.hy_parser.specs.Tokens.{HasTokens}
+use Rattle.hy_parser.specs.FirstTokens.{HasTokens}
 use Rattle.hy_parser.proofs.Lexing.{one_list}
 use Rattle.hy_parser.proofs.Statements.{one_program}
 

@@ -7,7 +7,7 @@ use Rattle.hy_parser.specs.declared.token.Mark.{Mark}
 use Rattle.hy_parser.specs.declared.token.Mark.TheVariants as mark
 use Rattle.hy_parser.specs.declared.tree.Operand.{Operand}
 use Rattle.hy_parser.specs.declared.tree.Operand.TheVariants as operand
-use Rattle.hy_parser.specs.Grammar.{IsWord, IsMark, NotBefore}
+use Rattle.hy_parser.specs.FirstGrammar.{IsWord, IsMark, NotBefore}
 use Rattle.hy_parser.specs.Words.{IsName}
 
 -- one token of this kind is taken

@@ -2,8 +2,8 @@
 use Rattle.std.specs.Prelude.{◌<◌, ◌≤◌, ℕ, List, take, drop, length, Result}
 use Rattle.hy_base.specs.declared.refusal.Fault.{Fault}
 use Rattle.hy_parser.specs.declared.token.TokenKind.{TokenKind}
-use Rattle.hy_parser.specs.Reads.{Reads}
-use Rattle.hy_parser.specs.Tokens.{IsToken}
+use Rattle.hy_parser.specs.FirstReads.{Reads}
+use Rattle.hy_parser.specs.FirstTokens.{IsToken}
 
 -- a token of so many bytes begins these
 pub record IsTokenOf (bytes : List ℕ) (k : TokenKind) (size : ℕ) : Type 0 where

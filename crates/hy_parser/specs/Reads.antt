@@ -1,22 +1,26 @@
--- What the parts of the reader answer.
-use Rattle.std.specs.Prelude.{◌≡◌, List, Result, Ok, Err}
-use Rattle.hy_base.specs.declared.refusal.Fault.{Fault}
-use Rattle.hy_base.specs.declared.refusal.Fault.TheVariants.{Refused, NoMemory}
-use Rattle.hy_base.specs.First.{Refusal}
-use Rattle.hy_base.specs.declared.refusal.Rule.TheVariants.{X1}
-use Rattle.hy_parser.specs.declared.token.Token.{Token}
+-- What a function that reads a part ensures: for whatever is expected behind the part, the machine goes over the tokens
+-- that were read to the state that has the part, or it stops where the function does.
+use Rattle.std.specs.Prelude.{◌≡◌, ◌≤◌, ◌+◌, ℕ, Result, Ok, Err, List, length}
+use Rattle.hy_lexer.specs.declared.token.Token.{Token}
+use Rattle.hy_tree.specs.Tree as T
+use Rattle.hy_parser.specs.declared.stop.Stop.{Stop}
+use Rattle.hy_parser.specs.declared.stop.Stop.TheVariants as stop
+use Rattle.hy_parser.specs.Machine.{Halt, Unexpected, TooDeep, most_levels, walk}
+use Rattle.hy_parser.specs.Stack.{State, depth}
 
--- the one refusal: a form that is not built, told at the start of the source
-abbrev pub unbuilt : Refusal
-unbuilt = record { rule = X1; span = record { from = 0; to = 0 } }
+-- where a function stops, the machine does, unless memory ran out
+abbrev pub Halts : Stop → Result T.Program Halt → Type 0
+Halts stop.NoMemory end = Unit {0}
+Halts (stop.Unexpected left) end = end ≡ Err (Unexpected left)
+Halts (stop.TooDeep left) end = end ≡ Err (TooDeep left)
 
--- Unless memory runs out, a value with this property is given, or there is none.
-abbrev pub Reads : {T : Type 0} → (T → Type 0) → Result T Fault → Type 0
-Reads {T} Has (Ok value) = Has value
-Reads {T} Has (Err (Refused rule span)) = (unbuilt ≡ record { rule = rule; span = span }) × ((value : T) → Has value → ⊥)
-Reads {T} Has (Err NoMemory) = Unit {0}
+-- A part was read, or not. `need x` is the state in which it is to come and `have part x` the one behind it, for everything
+-- x that may stand below; so many levels are left there. `plain` gives the part as plain data.
+abbrev pub Reads : {A B X : Type 0} → (levels : ℕ) → (plain : A → B) → (need : X → State) → (have : B → X → State) → List Token → Result A Stop → List Token → Type 0
+Reads {X = X} levels plain need have old (Ok part) new = (total : ℕ) (x : X) → levels + depth (need x) ≡ most_levels → walk total (need x) old ≡ walk total (have (plain part) x) new
+Reads {X = X} levels plain need have old (Err e) new = (total : ℕ) (x : X) → levels + depth (need x) ≡ most_levels → Halts e (walk total (need x) old)
 
--- The same of a part with tokens behind it: the part is read and these tokens are left, or no such part begins here.
-abbrev pub Parses : {T : Type 0} → (List Token → T → List Token → Type 0) → List Token → Result T Fault → List Token → Type 0
-Parses {T} Has old (Ok part) new = Has old part new
-Parses {T} Has old (Err fault) new = Reads {T = T} (λ part. (rest : List Token) × Has old part rest) (Err fault)
+-- The same for a part that counts its tokens. The tokens that are left are not more than the file has.
+abbrev pub ReadsCounted : {A B X : Type 0} → (levels : ℕ) → (plain : A → B) → (need : X → State) → (have : B → X → State) → List Token → Result A Stop → List Token → Type 0
+ReadsCounted {X = X} levels plain need have old (Ok part) new = (total : ℕ) (x : X) → length old ≤ total → levels + depth (need x) ≡ most_levels → walk total (need x) old ≡ walk total (have (plain part) x) new
+ReadsCounted {X = X} levels plain need have old (Err e) new = (total : ℕ) (x : X) → length old ≤ total → levels + depth (need x) ≡ most_levels → Halts e (walk total (need x) old)

@@ -3,10 +3,10 @@ use Rattle.std.specs.Prelude.{◌≡◌, ◌≤◌, ℕ, List, [], length}
 use Rattle.hy_base.specs.First.{Refusal}
 use Rattle.hy_parser.specs.declared.token.Token.{Token}
 use Rattle.hy_parser.specs.declared.tree.Program.{Program}
-use Rattle.hy_parser.specs.Tokens.{HasTokens}
-use Rattle.hy_parser.specs.Grammar.{HasProgram}
+use Rattle.hy_parser.specs.FirstTokens.{HasTokens}
+use Rattle.hy_parser.specs.FirstGrammar.{HasProgram}
 use Rattle.hy_parser.specs.Names.{IsNamed}
-use Rattle.hy_parser.specs.Reads.{unbuilt}
+use Rattle.hy_parser.specs.FirstReads.{unbuilt}
 
 -- The source has the forms that are built, and this is its tree.
 pub record IsTree (bytes : List ℕ) (tree : Program) : Type 0 where

@@ -1,7 +1,7 @@
 // A cursor over the tokens of a source.
 ghost use Rattle.std.specs.Prelude.{◌≡◌, [], ◌∷◌, MatchOption};
 ghost use Rattle.hy_parser.specs.Cursors.{HasMark, HasWord, HasName, Sees, Eats, IsEnd};
-ghost use Rattle.hy_parser.specs.Reads.{Reads, Parses};
+ghost use Rattle.hy_parser.specs.FirstReads.{Reads, Parses};
 
 use crate::fault::unbuilt;
 use crate::token::{Mark, Token, TokenKind};

@@ -1,7 +1,7 @@
 // The one refusal of the reader so far.
 ghost use Rattle.std.specs.Prelude.{◌≡◌};
 ghost use Rattle.hy_base.specs.declared.refusal.Fault.TheVariants.{Refused};
-ghost use Rattle.hy_parser.specs.Reads as spec;
+ghost use Rattle.hy_parser.specs.FirstReads as spec;
 
 use hy_base::{Fault, Rule, Span};
 

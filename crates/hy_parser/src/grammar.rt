@@ -2,8 +2,8 @@
 ghost use Rattle.std.specs.Prelude.{◌≡◌, ◌≢◌, [], ◌∷◌, codes};
 ghost use Rattle.std.specs.Bool.{Decides};
 ghost use Rattle.hy_parser.specs.Cursors.{IsOperand};
-ghost use Rattle.hy_parser.specs.Grammar.{IsWord, IsBare, HasItem, HasMore, HasSum, HasValue, HasStmt, HasStmts, HasBody, HasProgram};
-ghost use Rattle.hy_parser.specs.Reads.{Reads, Parses};
+ghost use Rattle.hy_parser.specs.FirstGrammar.{IsWord, IsBare, HasItem, HasMore, HasSum, HasValue, HasStmt, HasStmts, HasBody, HasProgram};
+ghost use Rattle.hy_parser.specs.FirstReads.{Reads, Parses};
 
 use crate::cursor::Cursor;
 use crate::fault::unbuilt;

@@ -1,8 +1,8 @@
 // From bytes to tokens.
 ghost use Rattle.std.specs.Prelude.{◌≡◌, ◌<◌, ◌≤◌, ℕ, length, All, take, drop, IsTrue, ◌↔◌, slice_index, MatchOption, pos};
 ghost use Rattle.std.specs.Bool.{Decides};
-ghost use Rattle.hy_parser.specs.Tokens.{HasTokens, IsBlank, IsBetween, IsDigit, byte_of, number_of};
-ghost use Rattle.hy_parser.specs.Reads.{Reads};
+ghost use Rattle.hy_parser.specs.FirstTokens.{HasTokens, IsBlank, IsBetween, IsDigit, byte_of, number_of};
+ghost use Rattle.hy_parser.specs.FirstReads.{Reads};
 ghost use Rattle.hy_parser.specs.Lexing.{ReadsToken};
 
 use crate::fault::unbuilt;

@@ -1,7 +1,7 @@
 // The reader of a source.
 ghost use Rattle.std.specs.Prelude.{◌≡◌, List, ℕ};
 ghost use Rattle.hy_base.specs.Answers.{Answers};
-ghost use Rattle.hy_parser.specs.Reads.{Reads};
+ghost use Rattle.hy_parser.specs.FirstReads.{Reads};
 ghost use Rattle.hy_parser.specs.Source.{IsTree, Breaks};
 ghost use Rattle.hy_parser.specs.declared.tree.Program.{Program};
 

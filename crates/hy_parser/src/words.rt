@@ -1,7 +1,7 @@
 // Which words are names. `docs/LANGUAGE.md` lists those that are not.
 ghost use Rattle.std.specs.Prelude.{◌≡◌, ℕ, List, map, Contains};
 ghost use Rattle.std.specs.Bool.{Decides};
-ghost use Rattle.hy_parser.specs.Reads.{Reads};
+ghost use Rattle.hy_parser.specs.FirstReads.{Reads};
 ghost use Rattle.hy_parser.specs.Words.{IsName};
 
 use crate::fault::unbuilt;

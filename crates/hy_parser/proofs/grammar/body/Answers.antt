@@ -1,5 +1,5 @@
 use Rattle.hy_parser.specs.Cursors.{IsEnd}
-use Rattle.hy_parser.specs.Grammar.{HasStmts, HasBody, some}
+use Rattle.hy_parser.specs.FirstGrammar.{HasStmts, HasBody, some}
 use Rattle.hy_parser.proofs.Refusals.{exits, reads_as}
 use Rattle.hy_parser.proofs.Statements.{body_end, body_empty, body_stmts}
 use Rattle.hy_parser.proofs.grammar.body.Goals as goal

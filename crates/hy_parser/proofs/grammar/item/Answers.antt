@@ -1,7 +1,7 @@
 use Rattle.hy_parser.proofs.Parsing.{item_of, operand_of}
 use Rattle.hy_parser.proofs.Refusals.{exits_part}
 use Rattle.hy_parser.specs.Cursors.{IsOperand}
-use Rattle.hy_parser.specs.Grammar.{HasItem}
+use Rattle.hy_parser.specs.FirstGrammar.{HasItem}
 use Rattle.hy_parser.proofs.grammar.item.Goals as goal
 
 pub returns-in_err-operand : goal.returns-in_err-operand

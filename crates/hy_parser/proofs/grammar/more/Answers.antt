@@ -1,6 +1,6 @@
 use Rattle.std.proofs.Common.{List}
 use Rattle.hy_parser.specs.declared.token.Token.{Token}
-use Rattle.hy_parser.specs.Grammar.{HasItem, HasMore}
+use Rattle.hy_parser.specs.FirstGrammar.{HasItem, HasMore}
 use Rattle.hy_parser.proofs.Parsing.{more_read, more_needs, more_ends}
 use Rattle.hy_parser.proofs.Refusals.{exits_part}
 use Rattle.hy_parser.proofs.grammar.more.Goals as goal

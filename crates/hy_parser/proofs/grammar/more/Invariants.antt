@@ -1,6 +1,6 @@
 use Rattle.std.proofs.Common.{List, length}
 use Rattle.hy_parser.specs.declared.token.Token.{Token}
-use Rattle.hy_parser.specs.Grammar.{HasMore}
+use Rattle.hy_parser.specs.FirstGrammar.{HasMore}
 use Rattle.hy_parser.proofs.Goes.{Goes}
 use Rattle.hy_parser.proofs.grammar.more.Given as goal
 

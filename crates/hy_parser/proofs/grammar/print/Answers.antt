@@ -2,7 +2,7 @@ use Rattle.std.proofs.Common.{List, ◌∷◌}
 use Rattle.hy_parser.specs.declared.token.Token.{Token}
 use Rattle.hy_parser.specs.declared.token.Mark.TheVariants.{LeftParen, RightParen}
 use Rattle.hy_parser.specs.Cursors.{HasMark}
-use Rattle.hy_parser.specs.Grammar.{HasSum, HasStmt}
+use Rattle.hy_parser.specs.FirstGrammar.{HasSum, HasStmt}
 use Rattle.hy_parser.proofs.Refusals.{exits_part}
 use Rattle.hy_parser.proofs.Statements.{print_left, print_sum, print_right, print_read}
 use Rattle.hy_parser.proofs.grammar.print.Goals as goal

@@ -2,7 +2,7 @@ use Rattle.std.proofs.Common.{List, codes}
 use Rattle.hy_parser.specs.declared.token.Token.{Token}
 use Rattle.hy_parser.specs.declared.token.Mark.TheVariants.{LeftParen, RightParen, LeftBrace}
 use Rattle.hy_parser.specs.Cursors.{HasMark, HasWord}
-use Rattle.hy_parser.specs.Grammar.{HasBody, HasProgram}
+use Rattle.hy_parser.specs.FirstGrammar.{HasBody, HasProgram}
 use Rattle.hy_parser.proofs.Refusals.{exits}
 use Rattle.hy_parser.proofs.Statements.{needs_fun, needs_main, needs_left, needs_right, needs_brace, needs_body, program_read}
 use Rattle.hy_parser.proofs.grammar.program.Goals as goal

@@ -1,7 +1,7 @@
 use Rattle.std.proofs.Common.{List, length, ap, arith}
 use Rattle.hy_parser.specs.declared.token.Token.{Token}
 use Rattle.hy_parser.specs.Cursors.{IsEnd}
-use Rattle.hy_parser.specs.Grammar.{HasStmt, HasStmts}
+use Rattle.hy_parser.specs.FirstGrammar.{HasStmt, HasStmts}
 use Rattle.hy_parser.proofs.Parsing.{shorter_stmt}
 use Rattle.hy_parser.proofs.Refusals.{exits}
 use Rattle.hy_parser.proofs.Statements.{stmts_need, stmts_read, stmts_end, stmts_done}

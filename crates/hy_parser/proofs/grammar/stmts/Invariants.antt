@@ -1,5 +1,5 @@
 use Rattle.std.proofs.Common.{length}
-use Rattle.hy_parser.specs.Grammar.{HasStmts}
+use Rattle.hy_parser.specs.FirstGrammar.{HasStmts}
 use Rattle.hy_parser.proofs.Goes.{Goes}
 use Rattle.hy_parser.proofs.grammar.stmts.Given as goal
 

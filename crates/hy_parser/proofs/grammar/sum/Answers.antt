@@ -1,6 +1,6 @@
 use Rattle.std.proofs.Common.{List}
 use Rattle.hy_parser.specs.declared.token.Token.{Token}
-use Rattle.hy_parser.specs.Grammar.{HasItem, HasMore, HasSum}
+use Rattle.hy_parser.specs.FirstGrammar.{HasItem, HasMore, HasSum}
 use Rattle.hy_parser.proofs.Parsing.{sum_more}
 use Rattle.hy_parser.proofs.Refusals.{exits_part}
 use Rattle.hy_parser.proofs.grammar.sum.Goals as goal

@@ -1,6 +1,6 @@
 use Rattle.std.proofs.Common.{List}
 use Rattle.hy_parser.specs.declared.token.Token.{Token}
-use Rattle.hy_parser.specs.Grammar.{HasSum, HasValue}
+use Rattle.hy_parser.specs.FirstGrammar.{HasSum, HasValue}
 use Rattle.hy_parser.proofs.Parsing.{no_bare}
 use Rattle.hy_parser.proofs.Refusals.{exits_part, refused_part}
 use Rattle.hy_parser.proofs.grammar.value.Goals as goal

@@ -2,7 +2,7 @@ use Rattle.std.proofs.Common.{List, ◌∷◌}
 use Rattle.hy_parser.specs.declared.token.Token.{Token}
 use Rattle.hy_parser.specs.declared.token.Mark.TheVariants.{Equals}
 use Rattle.hy_parser.specs.Cursors.{HasName, HasMark}
-use Rattle.hy_parser.specs.Grammar.{HasValue, HasStmt}
+use Rattle.hy_parser.specs.FirstGrammar.{HasValue, HasStmt}
 use Rattle.hy_parser.proofs.Refusals.{exits_part}
 use Rattle.hy_parser.proofs.Statements.{var_name, var_equals, var_value, var_read}
 use Rattle.hy_parser.proofs.grammar.var.Goals as goal

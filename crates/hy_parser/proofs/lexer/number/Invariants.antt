@@ -1,5 +1,5 @@
 use Rattle.std.proofs.Common.{◌≡◌, ◌≤◌, take}
-use Rattle.hy_parser.specs.Tokens.{number_of}
+use Rattle.hy_parser.specs.FirstTokens.{number_of}
 use Rattle.hy_parser.proofs.lexer.number.Given as goal
 
 abbrev pub invariant-loop-byte : goal.invariant-loop-byte

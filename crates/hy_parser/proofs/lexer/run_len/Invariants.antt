@@ -1,5 +1,5 @@
 use Rattle.std.proofs.Common.{◌<◌, ℕ, get_or}
-use Rattle.hy_parser.specs.Tokens.{IsBetween}
+use Rattle.hy_parser.specs.FirstTokens.{IsBetween}
 use Rattle.hy_parser.proofs.lexer.run_len.Given as goal
 
 abbrev pub invariant-loop-i : goal.invariant-loop-i

@@ -1,6 +1,6 @@
 use Rattle.std.proofs.Common.{◌≡◌, ◌≤◌, get_or, take, pos, w64, SFits, arith, rules, sym, subst, ◌∙◌}
 use Rattle.std.proofs.lemmas.Int.{to_z-of_z}
-use Rattle.hy_parser.specs.Tokens.{IsLetter, IsDigit, number_of}
+use Rattle.hy_parser.specs.FirstTokens.{IsLetter, IsDigit, number_of}
 use Rattle.hy_parser.specs.Lexing.{IsTokenOf}
 use Rattle.hy_parser.proofs.Lexing.{run_is, read_word, read_number, too_large, no_kind}
 use Rattle.hy_parser.proofs.Refusals.{refused}

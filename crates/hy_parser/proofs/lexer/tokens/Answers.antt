@@ -1,5 +1,5 @@
 use Rattle.std.proofs.Common.{◌≡◌, ◌∷◌, ap, sym, subst, ◌∙◌, add-one, arith, ⊎_elim, true≢false}
-use Rattle.hy_parser.specs.Tokens.{HasTokens}
+use Rattle.hy_parser.specs.FirstTokens.{HasTokens}
 use Rattle.hy_parser.specs.Lexing.{IsTokenOf}
 use Rattle.hy_parser.proofs.Lexing.{Lexed, past_space, past_read, at_end, begins, feeds}
 use Rattle.hy_parser.proofs.Refusals.{refused, exits}

@@ -1,5 +1,5 @@
 use Rattle.std.proofs.Common.{sym, ◌∙◌, true≢false, []}
-use Rattle.hy_parser.specs.Grammar.{HasProgram}
+use Rattle.hy_parser.specs.FirstGrammar.{HasProgram}
 use Rattle.hy_parser.specs.Names.{IsNamed}
 use Rattle.hy_parser.specs.Source.{IsTree}
 use Rattle.hy_parser.proofs.Refusals.{refused, exits}
