@@ -13,3 +13,11 @@ pub mod TypedTalks
 pub mod TypedOperations
 pub mod Paths
 pub mod Stuck
+pub mod OpenPlaces
+pub mod CalmTalks
+pub mod CalmFrames
+pub mod CalmSteps
+pub mod CalmStatements
+pub mod CalmBodies
+pub mod CalmRuns
+pub mod ToldIsCalm

@@ -18,5 +18,5 @@ pub use laws::{
 pub use log::{Key, Spot};
 pub use memory::{Cells, Copies};
 pub use program::{Checked, Core, CoreFun, CoreOp, CorePlace, CoreStep, CoreStmt};
-pub use told::shaped_is_never_stuck;
+pub use told::{ready_cores_agree, shaped_is_never_stuck};
 pub use value::Value;
