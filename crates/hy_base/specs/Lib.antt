@@ -3,6 +3,7 @@ pub mod Contents
 pub mod Files
 pub mod Filled
 pub mod First
+pub mod Lines
 pub mod Memory
 pub mod Numbers
 pub mod Outside

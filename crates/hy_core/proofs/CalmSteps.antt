@@ -12,8 +12,8 @@ use Rattle.hy_core.specs.Memory.{Key, Spot, whole, set_at, Way, Reads, Writes, O
 use Rattle.hy_core.specs.Memory as memory
 use Rattle.hy_core.specs.Runs as op
 use Rattle.hy_core.specs.Runs.{Talk, Ask, Look, Tell, Next, apply, interpret, steps}
-use Rattle.hy_core.specs.Lines.{Got, read_line}
-use Rattle.hy_core.specs.Lines as lines
+use Rattle.hy_base.specs.Lines.{Got, read_line}
+use Rattle.hy_base.specs.Lines as lines
 use Rattle.hy_core.specs.Operators.{Result, Gives, Traps, fitting, divided, equal, line_of, index_in, at_end, popped}
 use Rattle.hy_core.specs.Calm.{MayRead, MayWrite, MayOpen, MayHand, MayClose, IsCalm, StaysCalm}
 use Rattle.hy_core.specs.Control.{Form, form, local_type, Work, Idle, Rest, Loop, Test, Drops, Dest, Opens, Nowhere, Activation, Nap, Halt, Ends, Stuck, NotSet, NotOpened, Control, Stage, GivesUp, Setting, stop, with_work, key, count_one, with_some, trapped, turn, with_flag, spot, read, take, write, read_number, read_flag, read_array, sleeper_of, wake}

@@ -10,8 +10,8 @@ use Rattle.hy_core.specs.Values.{Val, Unset, Number, Truth, Tuple, Product, Arra
 use Rattle.hy_core.specs.Memory.{Key, Spot, Memory, copying, lending, no_copies, no_cells}
 use Rattle.hy_core.specs.Runs as op
 use Rattle.hy_core.specs.Runs.{Talk, Ask, Look, Tell, Next, apply, State, interpret, steps}
-use Rattle.hy_core.specs.Lines.{Got, read_line}
-use Rattle.hy_core.specs.Lines as lines
+use Rattle.hy_base.specs.Lines.{Got, read_line}
+use Rattle.hy_base.specs.Lines as lines
 use Rattle.hy_core.specs.Operators.{Result, Gives, Traps, fitting, same_flags, equal, line_of, index_in, popped}
 use Rattle.hy_core.specs.Control.{Form, form, part_type, element_type, blank_of, local_type, Deed, Body, EachOf, Element, Task, Do, Value, PartsOf, Unsets, Work, Idle, Rest, Loop, Test, Drops, Dest, Opens, Nowhere, Activation, Nap, Halt, Ends, Stuck, NotSet, NotOpened, Control, Stage, Deinitialises, GivesUp, Setting, stop, with_work, key, count_one, with_some, trapped, turn, with_number, with_flag, with_array, with_set, with_index, Aim, ToRead, ToWrite, ToDrop, at_unset, at_part, at_element, walk, spot, read, take, write, read_number, read_flag, read_array, sleeper_of, wake}
 use Rattle.hy_core.specs.Control as control

@@ -10,8 +10,8 @@ use Rattle.hy_core.specs.Values.{Val, Unset, Number, Truth, Tuple, Product, Arra
 use Rattle.hy_core.specs.Memory.{Key, Spot, Copies, copying}
 use Rattle.hy_core.specs.Runs as op
 use Rattle.hy_core.specs.Runs.{Talk, Ask, Look, Tell, Next}
-use Rattle.hy_core.specs.Lines.{Got, read_line}
-use Rattle.hy_core.specs.Lines as lines
+use Rattle.hy_base.specs.Lines.{Got, read_line}
+use Rattle.hy_base.specs.Lines as lines
 use Rattle.hy_core.specs.Operators.{Result, Gives, Traps, fitting, same_flags, same_numbers, equal, line_of, index_in, at_end, popped}
 use Rattle.hy_core.specs.Control.{Form, Numbers, Flags, Tuples, Products, Arrays, Unknown, form, Ends, Control, Setting, count_one, with_some, trapped, spot, read, take, read_number, read_flag, read_array, ToWrite}
 use Rattle.hy_core.specs.Statements.{with_one, with_two, with_three, store_to, give, arithmetic, compares, pop, swapped, swap, prints, reads, built, constant, Charge, Paid, Unpaid, charged}

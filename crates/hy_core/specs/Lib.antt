@@ -3,7 +3,6 @@ pub mod Values
 pub mod Memory
 pub mod Runs
 pub mod Calm
-pub mod Lines
 pub mod Operators
 pub mod Control
 pub mod Statements

@@ -7,8 +7,8 @@ use Rattle.hy_core.specs.Plain.{Step, Part, Index, Place, Operator, Add, Sub, Mu
 use Rattle.hy_core.specs.Values.{Val, Unset, Number, Truth, Tuple, Product, Array, Vals, No, And, many, nth, with_nth, all_whole}
 use Rattle.hy_core.specs.Memory.{Key, Spot, whole, below, Way, Reads, Writes}
 use Rattle.hy_core.specs.Operators.{Result, Gives, Traps, fitting, divided, same_flags, equal, line_of, index_in, at_end, popped}
-use Rattle.hy_core.specs.Lines.{Got, read_line}
-use Rattle.hy_core.specs.Lines as lines
+use Rattle.hy_base.specs.Lines.{Got, read_line}
+use Rattle.hy_base.specs.Lines as lines
 use Rattle.hy_core.specs.Runs as op
 use Rattle.hy_core.specs.Runs.{Talk, Ask, Look, Tell, Next}
 use Rattle.hy_core.specs.Control.{Form, Numbers, Flags, Tuples, Products, Arrays, Unknown, form, Deed, Body, EachOf, Element, Task, Do, Value, PartsOf, Unsets, Work, Idle, Rest, Loop, Test, Drops, Dest, Opens, Nowhere, Activation, Nap, Halt, Ends, Stuck, NotSet, NotOpened, Control, Stage, Deinitialises, GivesUp, Setting, stop, with_work, key, count_one, with_some, trapped, turn, with_number, with_flag, with_array, with_set, with_index, Aim, ToRead, ToWrite, ToDrop, spot, read, take, write, read_number, read_flag, read_array, sleeper_of, wake}

@@ -6,7 +6,6 @@ pub mod Places
 pub mod Allowed
 pub mod Reading
 pub mod Formats
-pub mod Lines
 pub mod States
 pub mod Checks
 pub mod Words
