@@ -1,34 +1,22 @@
 -- Calls, projections and loops of a checked core that is told: each step is calm, and so is each run.
-use Rattle.std.proofs.Common.{◌≡◌, ◌≢◌, ◌⊎◌, inl, inr, ⊎_elim, ℕ, zero, suc, ◌+◌, ◌<◌, ◌≤◌, Bool, true, false, cond, nat_lt, if◌then◌else◌, List, [], ◌∷◌, ◌++◌, length, Option, Some, None, slice_get, refl, sym, ap, ◌∙◌, subst, append-nil, arith}
-use Rattle.std.specs.Prelude.{ℤ, pos, neg_ℤ, not, ◌+ℤ◌, ◌-ℤ◌, ◌*ℤ◌, int_div, int_rem, int_lt, int_le}
+use Rattle.std.proofs.Common.{◌≡◌, ◌≢◌, ◌⊎◌, inl, inr, ⊎_elim, ℕ, ◌<◌, Bool, true, false, cond, nat_lt, List, ◌∷◌, length, Option, Some, None, refl, sym, ap, ◌∙◌, subst}
 use Rattle.std.proofs.lemmas.Bool.{ltb-true}
-use Rattle.std.proofs.lemmas.Bool.Decides.{eqb_tells}
-use Rattle.hy_base.specs.declared.run.End.TheVariants as end
-use Rattle.hy_base.specs.declared.run.TrapKind.TheVariants as trap
-use Rattle.hy_types.specs.declared.kinds.TyId.{TyId}
-use Rattle.hy_core.specs.Plain.{Place, Operator, Add, Sub, Mul, Div, Rem, Neg, Eq, Lt, Le, Not, NewArray, Push, Pop, Swap, Count, FreeArray, Print, Read, Check, Stmts, Done, Then, Stmt, Built, Set, Lend, Close, Move, Copy, Drop, Call, Project, Slide, Yield, If, While, Break, Continue, Leave, Fun, Core}
-use Rattle.hy_core.specs.Values.{Val, Unset, Number, Truth, Array, Vals, No, And, Path, many, nth, get, Apart, IsThere}
-use Rattle.hy_core.specs.Memory.{Key, Spot, whole, set_at, Way, Reads, Writes, Origin, Copies, close_copy, copying, no_copies}
-use Rattle.hy_core.specs.Memory as memory
+use Rattle.hy_core.specs.Plain.{Place, Leave}
+use Rattle.hy_core.specs.Values.{Val, Path, IsThere}
+use Rattle.hy_core.specs.Memory.{Key, set_at, Way, Reads, Writes, Origin}
 use Rattle.hy_core.specs.Runs as op
 use Rattle.hy_core.specs.Runs.{Talk, Ask, Look, Tell, Next, apply, interpret, steps}
-use Rattle.hy_base.specs.Lines.{Got, read_line}
-use Rattle.hy_base.specs.Lines as lines
-use Rattle.hy_core.specs.Operators.{Result, Gives, Traps, fitting, divided, equal, line_of, index_in, at_end, popped}
-use Rattle.hy_core.specs.Calm.{MayRead, MayWrite, MayOpen, MayLend, MayHand, MayClose, IsCalm, StaysCalm}
-use Rattle.hy_core.specs.Control.{Form, form, local_type, Work, Idle, Rest, Loop, Test, Drops, Dest, Opens, Nowhere, Activation, Nap, Halt, Ends, Stuck, NotSet, NotOpened, Control, Stage, GivesUp, Setting, stop, with_work, key, count_one, with_some, trapped, turn, with_flag, spot, read, take, write, read_number, read_flag, read_array, sleeper_of, wake}
-use Rattle.hy_core.specs.Control as control
-use Rattle.hy_core.specs.Statements.{with_none, with_one, with_two, with_three, store_to, give, arithmetic, compares, pop, swapped, swap, prints, reads, built, constant, Charge, Paid, Unpaid, charge, charged, begun, hand_all, move_all, enter, close_all, back, yield_to, slide_of, close_of, is_counted, count_if, way, aim, drop, broken, continued, does, tested, goes_on, talk_of, talk, begins_with, start}
-use Rattle.hy_core.specs.Typing.{Among, all, Distinct, still}
-use Rattle.hy_core.specs.Shaped.{LocalsAre, ShapedAll, IsShaped, Shaped}
+use Rattle.hy_core.specs.Calm.{MayOpen, MayLend}
+use Rattle.hy_core.specs.Control.{Nowhere, Activation, NotOpened, Control, Setting, stop, key, spot, sleeper_of, wake}
+use Rattle.hy_core.specs.Statements.{close_all, back, slide_of, close_of, count_if, way, does}
+use Rattle.hy_core.specs.Typing.{still}
 use Rattle.hy_core.specs.Told.{Who, Mine, Held, Entry, Loan, Status, Own, Param, Opened, Bound, Face, Sign, Scene, set_local, with_standing, with_status, with_entry, IsOpen, none_set, all_set, is_exact, IsShutAt, MayReadAt, MayWriteAt, MayOpenAt, IndexesOk, ReadOk, ChangeOk, StoreOk, GiveOk, TakeOk, given, stored_if, stored, Leads, Stores, Computes, opened, LendOk, come_back, Without, Closes, Slides, HandOk, HandsOk, come_from, held_by, TakesOk, all_given, Calls, Projects, IsLast, TellsBuilt, Around, NoLoop, InLoop, TellsAll, Tells, first_status, first, TellsBody, Told}
 use Rattle.hy_core.specs.Told as told
-use Rattle.hy_core.proofs.Keys.{key_dec, set_same, set_other, at_key}
-use Rattle.hy_core.proofs.OpenPlaces.{Sound, nothing_open, sound_apply}
-use Rattle.hy_core.proofs.CalmTalks.{Slots, at, mem, Fine, over, stands, Good, good_calm, good_next, good_sound, GoodAt, IsOpenSo, Is, Listed, View, Begins, aim_for, exact_indexes, shut_at, good_tell, good_some, good_trap, good_turn, good_flag, good_if, good_set, good_index, good_local, MayAt, may_read, may_write, After, good_spot, good_read, good_take, good_write, good_read_number, good_read_flag, good_read_array}
-use Rattle.hy_core.proofs.CalmFrames.{Sleeping, Passes, passes_self, passes_on, leads_pass, AroundBy, WorkTold, BreakTold, AgainTold, LoopTold, RestTold, AtHead, AtTest, break_told, again_told, Sl, Top, Runs, Waits, Sleeps, ParamOf, ExtraBy, Extra, HeldIn, PendingBy, Pending, Fits, Covers, Half, listed_map, half_pass, bind, WritesBack, Binds, GoesBy, Goes, NotIn, Distinct_ids, AllBelow, below_notin, below_more, Change, half_keep, scene, waits, Framed, CallersOk, Sleeper, Others, Stands, framed_keep, callers_keep, others_keep, some_is, at_local, at_both, other_act, still_open, open_change, close_change, wake_is, view}
-use Rattle.hy_core.proofs.CalmSteps.{Like, like_self, like_with, like_count, like_id, S, like_stands, good_close, Closed, good_close_all, TopOf, good_back}
-use Rattle.hy_core.proofs.CalmStatements.{given_pass, stored_pass, all_given_pass, come_from_pass, come_from_back, Ended, closes_end, slides_end, fine, fine_work, takes, values, writes, stores, some_at, built_good}
+use Rattle.hy_core.proofs.Keys.{key_dec, set_other, at_key}
+use Rattle.hy_core.proofs.CalmTalks.{Slots, at, mem, stands, Good, GoodAt, IsOpenSo, Is, Listed, View, Begins, aim_for, shut_at, good_tell, MayAt, may_read, may_write, good_spot, good_take}
+use Rattle.hy_core.proofs.CalmFrames.{Sleeping, leads_pass, WorkTold, Sl, Runs, Sleeps, ParamOf, ExtraBy, Extra, HeldIn, Fits, Half, listed_map, half_pass, GoesBy, Change, half_keep, scene, waits, Others, Stands, framed_keep, callers_keep, others_keep, some_is, at_local, at_both, other_act, still_open, open_change, close_change, wake_is, view}
+use Rattle.hy_core.proofs.CalmSteps.{Like, like_self, like_count, like_id, like_stands, good_close, good_close_all, good_back}
+use Rattle.hy_core.proofs.CalmStatements.{Ended}
 
 module _ (p : Setting) (signs : ℕ → Sign) (c : Control) (slots : Slots) (number : ℕ) (g : Face) (half : Half slots (sleeper_of c.asleep) Runs c.now.id (length c.now.fun.lent) g)
     (others : Others p signs slots (sleeper_of c.asleep) c.now.id c.started (waits p signs c.now number) c.callers) where
@@ -36,7 +24,7 @@ module _ (p : Setting) (signs : ℕ → Sign) (c : Control) (slots : Slots) (num
   x = scene p signs number c.now.fun
 
   abbrev pub TS : Control → Slots → Type 0
-  TS = Stands p signs
+  TS = Stands p signs c.halt
 
   abbrev pub Left : Face → Type 0
   Left d = WorkTold (scene p signs number c.now.fun) c.now.work d
@@ -88,7 +76,8 @@ module _ (p : Setting) (signs : ℕ → Sign) (c : Control) (slots : Slots) (num
       good_spot p TS slots g c.now.id now_view (Like c) (like_count c) (like_id c) w place _ ok.indexes (to_may w ok.may) (λ e vals u t l s begins there.
       subst (λ k. Good TS (Tell (op.Lend k (record { key = at c.now.id place.local; path = u }) w) (Next (count_if b e))) (mem slots vals)) (sym (ap (λ i. at i to) (like_id c e l)))
       (good_tell p TS (op.Lend (at c.now.id to) (record { key = at c.now.id place.local; path = u }) w) (Next (count_if b e)) (mem slots vals) s (may vals u begins there) (λ s.
-      stands (like_stands p signs c (count_if b e) _ (like_if b e l) (record {
+      stands (like_stands p signs c.halt c (count_if b e) _ (like_if b e l) (record {
+        same = refl;
         number = number;
         face = d;
         half = half_pass _ (sleeper_of c.asleep) Runs c.now.id (length c.now.fun.lent) (opened x g to place w) d (leads_pass x _ d leads)
@@ -144,8 +133,8 @@ module _ (p : Setting) (signs : ℕ → Sign) (c : Control) (slots : Slots) (num
 
       go : (b : Bool) → nat_lt of (length c.now.fun.lent) ≡ b → GoodAt TS (cond b (stop c NotOpened) (Tell (op.Close (key c of)) (Next c))) slots
       go true q = let r = half.params of (ltb-true of (length c.now.fun.lent) q) in let f = r.1 in absurd (cc)
-      go false q = good_close p signs slots (at c.now.id of) i.0 (Next c) i.1 (shut_at slots c.now.id g now_view of shut)
-          (λ vals s. stands (record { number = number; face = d; half = ends_half of o d st e; goes = w; others = ends_others of }))
+      go false q = good_close p signs c.halt slots (at c.now.id of) i.0 (Next c) i.1 (shut_at slots c.now.id g now_view of shut)
+          (λ vals s. stands (record { same = refl; number = number; face = d; half = ends_half of o d st e; goes = w; others = ends_others of }))
 
   -- LEAVING
 
@@ -165,7 +154,7 @@ module _ (p : Setting) (signs : ℕ → Sign) (c : Control) (slots : Slots) (num
           (back p (record c { turns = turns; opened = opened; input = input; output = output }) c.callers v c.now.dest))) slots
       closing turns opened input output v vals s =
           let e : Control = record c { turns = turns; opened = opened; input = input; output = output } in
-          (tt, good_close_all p signs e (back p e c.callers v c.now.dest) (length c.now.fun.lent) slots params unbased (λ slots' C. good_back p signs e number slots slots' C v c.callers c.now.dest others) vals s)
+          (tt, good_close_all p signs c.halt e (back p e c.callers v c.now.dest) (length c.now.fun.lent) slots params unbased (λ slots' C. good_back p signs c.halt e refl number slots slots' C v c.callers c.now.dest others) vals s)
 
   -- SLIDING: the sleeper of a bound local runs, and what ran waits for it
 
@@ -222,7 +211,7 @@ module _ (p : Setting) (signs : ℕ → Sign) (c : Control) (slots : Slots) (num
       let i : IsOpenSo v (slots (at c.now.id of)) = subst (λ s. Is s (slots (at c.now.id of))) st (half.status of) in
       let b = found.0 in
       subst (λ y. GoodAt TS (slide_of c (key c of) y) slots) (sym found.1)
-      (good_close p signs slots (at c.now.id of) i.0 (Next (record c { now = b; callers = c.now ∷ c.callers; asleep = wake c.asleep (key c of) })) i.1 (shut_at slots c.now.id g now_view of shut) (λ vals s. stands (go b found.1)))
+      (good_close p signs c.halt slots (at c.now.id of) i.0 (Next (record c { now = b; callers = c.now ∷ c.callers; asleep = wake c.asleep (key c of) })) i.1 (shut_at slots c.now.id g now_view of shut) (λ vals s. stands (go b found.1)))
     where
       go : (b : Activation) → (sleeper_of c.asleep) (at c.now.id of) ≡ Some b → TS (record c { now = b; callers = c.now ∷ c.callers; asleep = wake c.asleep (at c.now.id of) }) (set_at slots (at c.now.id of) None)
       go b sl =
@@ -233,6 +222,7 @@ module _ (p : Setting) (signs : ℕ → Sign) (c : Control) (slots : Slots) (num
             sleep = λ x j n. set_other (sleeper_of c.asleep) (at c.now.id of) None (at x j) (other_act x j c.now.id of n);
           } in
           record {
+            same = refl;
             number = s.frame.number;
             face = s.frame.face;
             half = subst (λ a. Half (set_at slots (at c.now.id of) None) a Runs b.id (length b.fun.lent) s.frame.face) (sym (wake_is c.asleep (at c.now.id of)))

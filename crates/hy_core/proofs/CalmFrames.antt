@@ -1,17 +1,16 @@
 -- What is told of each activation of a run of a checked core: one runs, others wait for one another, and others sleep.
-use Rattle.std.proofs.Common.{◌≡◌, ◌≢◌, ◌⊎◌, inl, inr, ⊎_elim, ℕ, zero, suc, ◌<◌, ◌≤◌, Bool, true, false, cond, List, [], ◌∷◌, ◌++◌, length, Option, Some, None, refl, sym, ap, ◌∙◌, subst, arith}
+use Rattle.std.proofs.Common.{◌≡◌, ◌≢◌, ◌⊎◌, inl, inr, ⊎_elim, ℕ, suc, ◌<◌, cond, List, [], ◌∷◌, length, Option, Some, None, refl, sym, ap, ◌∙◌, subst, arith}
 use Rattle.std.proofs.lemmas.Bool.Decides.{eqb_tells}
-use Rattle.hy_core.specs.Plain.{Place, Stmts, Fun, Core}
-use Rattle.hy_core.specs.Values.{Val, Path}
-use Rattle.hy_core.specs.Memory.{Key, set_at, Way, Reads, Writes, Origin}
-use Rattle.hy_core.specs.Control.{Work, Idle, Rest, Loop, Test, Drops, Dest, Opens, Nowhere, Activation, Nap, Control, GivesUp, Setting, sleeper_of, wake}
+use Rattle.hy_core.specs.Plain.{Place, Stmts, Fun}
+use Rattle.hy_core.specs.Memory.{Key, set_at, Way, Origin}
+use Rattle.hy_core.specs.Control.{Flags, Work, Idle, Rest, Loop, Test, Drops, Dest, Opens, Nowhere, Activation, Nap, Halt, Control, GivesUp, Setting, sleeper_of, wake}
 use Rattle.hy_core.specs.Control as control
 use Rattle.hy_core.specs.Statements.{broken, continued}
 use Rattle.hy_core.specs.Typing.{Among, still}
-use Rattle.hy_core.specs.Shaped.{ShapedAll}
-use Rattle.hy_core.specs.Told.{Who, Mine, Held, Entry, Status, Own, Param, Opened, Bound, Face, Sign, Scene, set_local, with_status, all_set, IsShutAt, MayReadAt, MayWriteAt, IndexesOk, Leads, TellsAll, Around, NoLoop, InLoop, scene_of}
+use Rattle.hy_core.specs.Shaped.{HasForm, ShapedAll}
+use Rattle.hy_core.specs.Told.{IsSet, Who, Mine, Held, Entry, Status, Own, Param, Opened, Bound, Face, Sign, Scene, set_local, with_status, all_set, IsShutAt, MayReadAt, MayWriteAt, IndexesOk, Leads, TellsAll, Around, NoLoop, InLoop, scene_of}
 use Rattle.hy_core.proofs.Keys.{key_dec, set_same, set_other, at_key}
-use Rattle.hy_core.proofs.CalmTalks.{Slots, at, Is, Listed, MineIn, View, Fine, over, stands}
+use Rattle.hy_core.proofs.CalmTalks.{Slots, at, Is, Listed, MineIn, View}
 
 abbrev pub Sleeping : Type 0
 Sleeping = Key → Option Activation
@@ -45,6 +44,8 @@ module _ (x : Scene) where
     pub out : Face
     pub tells : TellsAll x NoLoop g head test
     pub read : MayReadAt test on []
+    pub set : test.standing on [] ≡ IsSet
+    pub flag : HasForm x.core x.fun on Flags
     pub pass : TellsAll x (InLoop out g) test body g
     pub leaves : Leads x test out
     pub shaped_head : ShapedAll x.core x.fun head
@@ -276,7 +277,9 @@ module _ (p : Setting) (signs : ℕ → Sign) where
     pub below : AllBelow started callers
     pub inside : (k : Key) (o : Origin) → slots k ≡ Some o → (k.act < started) × (o.base.act < started)
 
-  pub record Stands (c : Control) (slots : Slots) : Type 0 where
+  -- the run stands where it stood, halted or not
+  pub record Stands (halt : Option Halt) (c : Control) (slots : Slots) : Type 0 where
+    pub same : c.halt ≡ halt
     pub number : ℕ
     pub face : Face
     pub half : Half slots (sleeper_of c.asleep) Runs c.now.id (length c.now.fun.lent) face

@@ -1,35 +1,25 @@
 -- Yields, calls, projections and loops of a checked core that is told are calm, and so is each run of it.
-use Rattle.std.proofs.Common.{◌≡◌, ◌≢◌, ◌⊎◌, inl, inr, ⊎_elim, ℕ, zero, suc, ◌+◌, ◌<◌, ◌≤◌, Bool, true, false, cond, nat_lt, if◌then◌else◌, List, [], ◌∷◌, ◌++◌, length, Option, Some, None, slice_get, refl, sym, ap, ◌∙◌, subst, append-nil, arith}
-use Rattle.std.specs.Prelude.{ℤ, pos, neg_ℤ, not, ◌+ℤ◌, ◌-ℤ◌, ◌*ℤ◌, int_div, int_rem, int_lt, int_le}
-use Rattle.std.proofs.lemmas.Bool.{ltb-true}
+use Rattle.std.proofs.Common.{◌≡◌, ◌≢◌, ◌⊎◌, inl, inr, ⊎_elim, ℕ, zero, suc, ◌+◌, ◌<◌, ◌≤◌, List, [], ◌∷◌, length, Option, Some, None, slice_get, refl, sym, ap, ◌∙◌, subst, arith}
 use Rattle.std.proofs.lemmas.Bool.Decides.{eqb_tells}
-use Rattle.hy_base.specs.declared.run.End.TheVariants as end
-use Rattle.hy_base.specs.declared.run.TrapKind.TheVariants as trap
 use Rattle.hy_types.specs.declared.kinds.TyId.{TyId}
-use Rattle.hy_core.specs.Plain.{Place, Operator, Add, Sub, Mul, Div, Rem, Neg, Eq, Lt, Le, Not, NewArray, Push, Pop, Swap, Count, FreeArray, Print, Read, Check, Stmts, Done, Then, Stmt, Built, Set, Lend, Close, Move, Copy, Drop, Call, Project, Slide, Yield, If, While, Break, Continue, Leave, Fun, Core}
-use Rattle.hy_core.specs.Values.{Val, Unset, Number, Truth, Array, Vals, No, And, Path, many, nth, get, Apart, IsThere}
+use Rattle.hy_core.specs.Plain.{Place, Fun}
+use Rattle.hy_core.specs.Values.{Val}
 use Rattle.hy_core.specs.Memory.{Key, Spot, whole, set_at, Way, Reads, Writes, Origin, Copies, close_copy, copying, no_copies}
 use Rattle.hy_core.specs.Memory as memory
 use Rattle.hy_core.specs.Runs as op
 use Rattle.hy_core.specs.Runs.{Talk, Ask, Look, Tell, Next, apply, interpret, steps}
-use Rattle.hy_base.specs.Lines.{Got, read_line}
-use Rattle.hy_base.specs.Lines as lines
-use Rattle.hy_core.specs.Operators.{Result, Gives, Traps, fitting, divided, equal, line_of, index_in, at_end, popped}
-use Rattle.hy_core.specs.Calm.{MayRead, MayWrite, MayOpen, MayLend, MayHand, MayClose, IsCalm, StaysCalm}
+use Rattle.hy_core.specs.Calm.{MayHand}
 use Rattle.hy_core.specs.Control.{Form, form, local_type, Work, Idle, Rest, Loop, Test, Drops, Dest, Opens, Nowhere, Activation, Nap, Halt, Ends, Stuck, NotSet, NotOpened, Control, Stage, GivesUp, Setting, stop, with_work, key, count_one, with_some, trapped, turn, with_flag, spot, read, take, write, read_number, read_flag, read_array, sleeper_of, wake}
 use Rattle.hy_core.specs.Control as control
-use Rattle.hy_core.specs.Statements.{with_none, with_one, with_two, with_three, store_to, give, arithmetic, compares, pop, swapped, swap, prints, reads, built, constant, Charge, Paid, Unpaid, charge, charged, begun, hand_all, move_all, enter, close_all, back, yield_to, slide_of, close_of, is_counted, count_if, way, aim, drop, broken, continued, does, tested, goes_on, talk_of, talk, begins_with, start}
-use Rattle.hy_core.specs.Typing.{Among, all, Distinct, still}
-use Rattle.hy_core.specs.Shaped.{LocalsAre, ShapedAll, IsShaped, Shaped}
-use Rattle.hy_core.specs.Told.{Who, Mine, Held, Entry, Loan, Status, Own, Param, Opened, Bound, Face, Sign, Scene, set_local, with_standing, with_status, with_entry, IsOpen, none_set, all_set, is_exact, IsShutAt, MayReadAt, MayWriteAt, MayOpenAt, IndexesOk, ReadOk, ChangeOk, StoreOk, GiveOk, TakeOk, given, stored_if, stored, Leads, Stores, Computes, opened, LendOk, come_back, Without, Closes, Slides, HandOk, HandsOk, come_from, held_by, TakesOk, all_given, Calls, Projects, IsLast, TellsBuilt, Around, NoLoop, InLoop, TellsAll, Tells, first_status, first, TellsBody, Told, scene_of}
-use Rattle.hy_core.specs.Told as told
-use Rattle.hy_core.proofs.Keys.{key_dec, set_same, set_other, at_key}
-use Rattle.hy_core.proofs.OpenPlaces.{Sound, nothing_open, sound_apply}
-use Rattle.hy_core.proofs.CalmTalks.{Slots, at, mem, Fine, over, stands, Good, good_calm, good_next, good_sound, GoodAt, IsOpenSo, Is, Listed, View, Begins, aim_for, exact_indexes, shut_at, good_tell, good_some, good_trap, good_turn, good_flag, good_if, good_set, good_index, good_local, MayAt, may_read, may_write, After, good_spot, good_read, good_take, good_write, good_read_number, good_read_flag, good_read_array}
-use Rattle.hy_core.proofs.CalmFrames.{Sleeping, Passes, passes_self, passes_on, leads_pass, AroundBy, WorkTold, BreakTold, AgainTold, LoopTold, RestTold, AtHead, AtTest, break_told, again_told, Sl, Top, Runs, Waits, Sleeps, ParamOf, ExtraBy, Extra, HeldIn, PendingBy, Pending, Fits, Covers, Half, listed_map, half_pass, bind, WritesBack, Binds, GoesBy, Goes, NotIn, Distinct_ids, AllBelow, below_notin, below_more, Change, half_keep, scene, waits, Framed, CallersOk, Sleeper, Others, Stands, framed_keep, callers_keep, others_keep, some_is, at_local, at_both, other_act, still_open, open_change, close_change, wake_is, view}
-use Rattle.hy_core.proofs.CalmSteps.{Like, like_self, like_with, like_count, like_id, S, like_stands, good_close, Closed, good_close_all, TopOf, good_back}
-use Rattle.hy_core.proofs.CalmStatements.{given_pass, stored_pass, all_given_pass, come_from_pass, come_from_back, Ended, closes_end, slides_end, fine, fine_work, takes, values, writes, stores, some_at, built_good}
-use Rattle.hy_core.proofs.CalmBodies.{lend_good, close_good, leave_good, slide_good}
+use Rattle.hy_core.specs.Statements.{begun, hand_all, move_all, yield_to}
+use Rattle.hy_core.specs.Typing.{Among, Distinct}
+use Rattle.hy_core.specs.Shaped.{Shaped}
+use Rattle.hy_core.specs.Told.{Who, Mine, Held, Status, Own, Param, Opened, Bound, Face, Sign, Scene, IsOpen, IsShutAt, given, HandsOk, TakesOk, NoLoop, first_status, first, TellsBody, scene_of}
+use Rattle.hy_core.proofs.Keys.{set_same, set_other, at_key}
+use Rattle.hy_core.proofs.CalmTalks.{Slots, at, mem, over, stands, GoodAt, IsOpenSo, Is, Listed, View, shut_at, good_tell}
+use Rattle.hy_core.proofs.CalmFrames.{Sleeping, Passes, passes_on, WorkTold, Sl, Top, Runs, Waits, Sleeps, ParamOf, Extra, HeldIn, Fits, Half, listed_map, half_pass, bind, GoesBy, below_notin, below_more, Change, scene, waits, Sleeper, Others, Stands, framed_keep, callers_keep, some_is, at_local, at_both, other_act, open_change, view}
+use Rattle.hy_core.proofs.CalmSteps.{Like}
+use Rattle.hy_core.proofs.CalmStatements.{given_pass, takes}
 
 module _ (p : Setting) (signs : ℕ → Sign) (c : Control) (slots : Slots) (number : ℕ) (g : Face) (half : Half slots (sleeper_of c.asleep) Runs c.now.id (length c.now.fun.lent) g)
     (others : Others p signs slots (sleeper_of c.asleep) c.now.id c.started (waits p signs c.now number) c.callers) where
@@ -37,7 +27,7 @@ module _ (p : Setting) (signs : ℕ → Sign) (c : Control) (slots : Slots) (num
   x = scene p signs number c.now.fun
 
   abbrev pub TS : Control → Slots → Type 0
-  TS = Stands p signs
+  TS = Stands p signs c.halt
 
   abbrev pub Left : Face → Type 0
   Left d = WorkTold (scene p signs number c.now.fun) c.now.work d
@@ -159,6 +149,7 @@ module _ (p : Setting) (signs : ℕ → Sign) (c : Control) (slots : Slots) (num
     yield_stands d passes w vals s = (
       yield_may vals,
       stands (record {
+        same = refl;
         number = X.frames.0.number;
         face = X.frames.0.goes.next;
         half = half_pass y_slots y_asl Runs a.id (length a.fun.lent) (bind X.frames.0.face l (signs number).yields) X.frames.0.goes.next X.frames.0.goes.passes yield_half;
@@ -389,6 +380,7 @@ module _ (p : Setting) (signs : ℕ → Sign) (c : Control) (slots : Slots) (num
     pub begins_so : (turns n_opened : ℕ) (input output : List ℕ) (d : Face) → Half slots2 (sleeper_of c.asleep) top c.now.id (length c.now.fun.lent) d → GoesBy (scene p signs number c.now.fun) d c.now.work (signs n).yields dest
         → TS (begun (record c { turns = turns; opened = n_opened; input = input; output = output }) f dest) slots2
     begins_so turns n_opened input output d h w = record {
+      same = refl;
       number = n;
       face = first (scene p signs n f);
       half = begun_half;

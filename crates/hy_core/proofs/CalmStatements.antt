@@ -1,33 +1,26 @@
 -- Statements of a checked core that is told: each step is calm.
-use Rattle.std.proofs.Common.{◌≡◌, ◌≢◌, ◌⊎◌, inl, inr, ⊎_elim, ℕ, zero, suc, ◌+◌, ◌<◌, ◌≤◌, Bool, true, false, cond, nat_lt, if◌then◌else◌, List, [], ◌∷◌, ◌++◌, length, Option, Some, None, slice_get, refl, sym, ap, ◌∙◌, subst, append-nil, arith}
-use Rattle.std.specs.Prelude.{ℤ, pos, neg_ℤ, not, ◌+ℤ◌, ◌-ℤ◌, ◌*ℤ◌, int_div, int_rem, int_lt, int_le}
-use Rattle.std.proofs.lemmas.Bool.{ltb-true}
-use Rattle.std.proofs.lemmas.Bool.Decides.{eqb_tells}
+use Rattle.std.proofs.Common.{◌≡◌, ◌≢◌, ℕ, suc, Bool, true, false, cond, if◌then◌else◌, List, [], ◌∷◌, ◌++◌, length, Option, Some, None, refl, sym, ap, ◌∙◌, subst}
+use Rattle.std.specs.Prelude.{ℤ, pos, neg_ℤ, not, int_lt, int_le}
 use Rattle.hy_base.specs.declared.run.End.TheVariants as end
 use Rattle.hy_base.specs.declared.run.TrapKind.TheVariants as trap
-use Rattle.hy_types.specs.declared.kinds.TyId.{TyId}
-use Rattle.hy_core.specs.Plain.{Place, Operator, Add, Sub, Mul, Div, Rem, Neg, Eq, Lt, Le, Not, NewArray, Push, Pop, Swap, Count, FreeArray, Print, Read, Check, Stmts, Done, Then, Stmt, Built, Set, Lend, Close, Move, Copy, Drop, Call, Project, Slide, Yield, If, While, Break, Continue, Leave, Fun, Core}
-use Rattle.hy_core.specs.Values.{Val, Unset, Number, Truth, Array, Vals, No, And, Path, many, nth, get, Apart, IsThere}
-use Rattle.hy_core.specs.Memory.{Key, Spot, whole, set_at, Way, Reads, Writes, Origin, Copies, close_copy, copying, no_copies}
-use Rattle.hy_core.specs.Memory as memory
+use Rattle.hy_core.specs.Plain.{Place, Operator, Add, Sub, Mul, Div, Rem, Neg, Eq, Lt, Le, Not, NewArray, Push, Pop, Swap, Count, FreeArray, Print, Read, Check}
+use Rattle.hy_core.specs.Values.{Val, Number, Truth, Array, Vals, No, And, many}
+use Rattle.hy_core.specs.Memory.{Key, Spot, Way, Reads, Writes}
 use Rattle.hy_core.specs.Runs as op
 use Rattle.hy_core.specs.Runs.{Talk, Ask, Look, Tell, Next, apply, interpret, steps}
 use Rattle.hy_base.specs.Lines.{Got, read_line}
 use Rattle.hy_base.specs.Lines as lines
-use Rattle.hy_core.specs.Operators.{Result, Gives, Traps, fitting, divided, equal, line_of, index_in, at_end, popped}
-use Rattle.hy_core.specs.Calm.{MayRead, MayWrite, MayOpen, MayLend, MayHand, MayClose, IsCalm, StaysCalm}
-use Rattle.hy_core.specs.Control.{Form, form, local_type, Work, Idle, Rest, Loop, Test, Drops, Dest, Opens, Nowhere, Activation, Nap, Halt, Ends, Stuck, NotSet, NotOpened, Control, Stage, GivesUp, Setting, stop, with_work, key, count_one, with_some, trapped, turn, with_flag, spot, read, take, write, read_number, read_flag, read_array, sleeper_of, wake}
-use Rattle.hy_core.specs.Control as control
-use Rattle.hy_core.specs.Statements.{with_none, with_one, with_two, with_three, store_to, give, arithmetic, compares, pop, swapped, swap, prints, reads, built, constant, Charge, Paid, Unpaid, charge, charged, begun, hand_all, move_all, enter, close_all, back, yield_to, slide_of, close_of, is_counted, count_if, way, aim, drop, broken, continued, does, tested, goes_on, talk_of, talk, begins_with, start}
-use Rattle.hy_core.specs.Typing.{Among, all, Distinct, still}
-use Rattle.hy_core.specs.Shaped.{LocalsAre, ShapedAll, IsShaped, Shaped}
+use Rattle.hy_core.specs.Operators.{Result, Gives, Traps, fitting, equal, line_of, index_in, at_end, popped}
+use Rattle.hy_core.specs.Calm.{MayWrite}
+use Rattle.hy_core.specs.Control.{Work, Ends, Stuck, Control, Setting, with_work, with_some, trapped, read, take, write, read_number, read_flag, read_array, sleeper_of}
+use Rattle.hy_core.specs.Statements.{with_one, with_two, with_three, store_to, give, arithmetic, compares, pop, swapped, swap, prints, reads, built}
+use Rattle.hy_core.specs.Typing.{Among, all, still}
 use Rattle.hy_core.specs.Told.{Who, Mine, Held, Entry, Loan, Status, Own, Param, Opened, Bound, Face, Sign, Scene, set_local, with_standing, with_status, with_entry, IsOpen, none_set, all_set, is_exact, IsShutAt, MayReadAt, MayWriteAt, MayOpenAt, IndexesOk, ReadOk, ChangeOk, StoreOk, GiveOk, TakeOk, given, stored_if, stored, Leads, Stores, Computes, opened, LendOk, come_back, Without, Closes, Slides, HandOk, HandsOk, come_from, held_by, TakesOk, all_given, Calls, Projects, IsLast, TellsBuilt, Around, NoLoop, InLoop, TellsAll, Tells, first_status, first, TellsBody, Told}
 use Rattle.hy_core.specs.Told as told
-use Rattle.hy_core.proofs.Keys.{key_dec, set_same, set_other, at_key}
-use Rattle.hy_core.proofs.OpenPlaces.{Sound, nothing_open, sound_apply}
-use Rattle.hy_core.proofs.CalmTalks.{Slots, at, mem, Fine, over, stands, Good, good_calm, good_next, good_sound, GoodAt, IsOpenSo, Is, Listed, View, Begins, aim_for, exact_indexes, shut_at, good_tell, good_some, good_trap, good_turn, good_flag, good_if, good_set, good_index, good_local, MayAt, may_read, may_write, After, good_spot, good_read, good_take, good_write, good_read_number, good_read_flag, good_read_array}
-use Rattle.hy_core.proofs.CalmFrames.{Sleeping, Passes, passes_self, passes_on, leads_pass, AroundBy, WorkTold, BreakTold, AgainTold, LoopTold, RestTold, AtHead, AtTest, break_told, again_told, Sl, Top, Runs, Waits, Sleeps, ParamOf, ExtraBy, Extra, HeldIn, PendingBy, Pending, Fits, Covers, Half, listed_map, half_pass, bind, WritesBack, Binds, GoesBy, Goes, NotIn, Distinct_ids, AllBelow, below_notin, below_more, Change, half_keep, scene, waits, Framed, CallersOk, Sleeper, Others, Stands, framed_keep, callers_keep, others_keep, some_is, at_local, at_both, other_act, still_open, open_change, close_change, wake_is, view}
-use Rattle.hy_core.proofs.CalmSteps.{Like, like_self, like_with, like_count, like_id, S, like_stands, good_close, Closed, good_close_all, TopOf, good_back}
+use Rattle.hy_core.proofs.OpenPlaces.{Sound}
+use Rattle.hy_core.proofs.CalmTalks.{Slots, at, mem, over, stands, Good, GoodAt, View, exact_indexes, good_tell, good_some, good_trap, good_index, may_write, good_read, good_take, good_write, good_read_number, good_read_flag, good_read_array}
+use Rattle.hy_core.proofs.CalmFrames.{Sleeping, Passes, passes_self, passes_on, leads_pass, WorkTold, Runs, Half, half_pass, scene, waits, Others, Stands, view}
+use Rattle.hy_core.proofs.CalmSteps.{Like, like_with, like_count, like_id, like_stands}
 
 -- FACES that tell the same of what is open
 
@@ -91,7 +84,7 @@ module _ (p : Setting) (signs : ℕ → Sign) (c : Control) (slots : Slots) (num
   OthersOf slots = Others p signs slots (sleeper_of c.asleep) c.now.id c.started (waits p signs c.now number) c.callers
 
   abbrev pub TS : Control → Slots → Type 0
-  TS = Stands p signs
+  TS = Stands p signs c.halt
 
   module _ (half : HalfOf slots g) (others : OthersOf slots) where
     -- with what is left told
@@ -99,11 +92,11 @@ module _ (p : Setting) (signs : ℕ → Sign) (c : Control) (slots : Slots) (num
     Left d = WorkTold (scene p signs number c.now.fun) c.now.work d
 
     pub fine : (d : Face) → Passes g d → Left d → (e : Control) → Like c e → GoodAt TS (Next e) slots
-    fine d l w e k vals s = stands (like_stands p signs c e slots k (record { number = number; face = d; half = half_pass slots (sleeper_of c.asleep) Runs c.now.id (length c.now.fun.lent) g d l half; goes = w; others = others }))
+    fine d l w e k vals s = stands (like_stands p signs c.halt c e slots k (record { same = refl; number = number; face = d; half = half_pass slots (sleeper_of c.asleep) Runs c.now.id (length c.now.fun.lent) g d l half; goes = w; others = others }))
 
     -- with other work
     pub fine_work : (d : Face) (w : Work) → Passes g d → WorkTold (scene p signs number c.now.fun) w d → GoodAt TS (Next (with_work c w)) slots
-    fine_work d w l t vals s = stands (record { number = number; face = d; half = half_pass slots (sleeper_of c.asleep) Runs c.now.id (length c.now.fun.lent) g d l half; goes = t; others = others })
+    fine_work d w l t vals s = stands (record { same = refl; number = number; face = d; half = half_pass slots (sleeper_of c.asleep) Runs c.now.id (length c.now.fun.lent) g d l half; goes = t; others = others })
 
     pub V : (d : Face) → Passes g d → View slots c.now.id d
     V d l = view slots (sleeper_of c.asleep) c.now.id (length c.now.fun.lent) d (half_pass slots (sleeper_of c.asleep) Runs c.now.id (length c.now.fun.lent) g d l half)

@@ -1,32 +1,20 @@
 -- Statements of a checked core that is told: each step is calm.
-use Rattle.std.proofs.Common.{◌≡◌, ◌≢◌, ◌⊎◌, inl, inr, ⊎_elim, ℕ, zero, suc, ◌+◌, ◌<◌, ◌≤◌, Bool, true, false, cond, nat_lt, List, [], ◌∷◌, ◌++◌, length, Option, Some, None, slice_get, refl, sym, ap, ◌∙◌, subst, append-nil, arith}
-use Rattle.std.specs.Prelude.{ℤ, pos, neg_ℤ, not, ◌+ℤ◌, ◌-ℤ◌, ◌*ℤ◌, int_div, int_rem, int_lt, int_le}
-use Rattle.std.proofs.lemmas.Bool.{ltb-true}
+use Rattle.std.proofs.Common.{◌≡◌, ◌≢◌, inl, inr, ⊎_elim, ℕ, zero, suc, ◌<◌, List, [], ◌∷◌, length, Option, Some, None, refl, sym, ap, ◌∙◌, subst, arith}
 use Rattle.std.proofs.lemmas.Bool.Decides.{eqb_tells}
 use Rattle.hy_base.specs.declared.run.End.TheVariants as end
-use Rattle.hy_base.specs.declared.run.TrapKind.TheVariants as trap
-use Rattle.hy_types.specs.declared.kinds.TyId.{TyId}
-use Rattle.hy_core.specs.Plain.{Place, Operator, Add, Sub, Mul, Div, Rem, Neg, Eq, Lt, Le, Not, NewArray, Push, Pop, Swap, Count, FreeArray, Print, Read, Check, Stmts, Done, Then, Stmt, Built, Set, Lend, Close, Move, Copy, Drop, Call, Project, Slide, Yield, If, While, Break, Continue, Leave, Fun, Core}
-use Rattle.hy_core.specs.Values.{Val, Unset, Number, Truth, Array, Vals, No, And, Path, many, nth, get, Apart, IsThere}
-use Rattle.hy_core.specs.Memory.{Key, Spot, whole, set_at, Way, Reads, Writes, Origin, Copies, close_copy, copying, no_copies}
-use Rattle.hy_core.specs.Memory as memory
+use Rattle.hy_core.specs.Values.{Val}
+use Rattle.hy_core.specs.Memory.{Key, set_at, Origin, close_copy}
 use Rattle.hy_core.specs.Runs as op
 use Rattle.hy_core.specs.Runs.{Talk, Ask, Look, Tell, Next, apply, interpret, steps}
-use Rattle.hy_base.specs.Lines.{Got, read_line}
-use Rattle.hy_base.specs.Lines as lines
-use Rattle.hy_core.specs.Operators.{Result, Gives, Traps, fitting, divided, equal, line_of, index_in, at_end, popped}
-use Rattle.hy_core.specs.Calm.{MayRead, MayWrite, MayOpen, MayHand, MayClose, IsCalm, StaysCalm}
+use Rattle.hy_core.specs.Calm.{MayClose}
 use Rattle.hy_core.specs.Control.{Form, form, local_type, Work, Idle, Rest, Loop, Test, Drops, Dest, Opens, Nowhere, Activation, Nap, Halt, Ends, Stuck, NotSet, NotOpened, Control, Stage, GivesUp, Setting, stop, with_work, key, count_one, with_some, trapped, turn, with_flag, spot, read, take, write, read_number, read_flag, read_array, sleeper_of, wake}
 use Rattle.hy_core.specs.Control as control
-use Rattle.hy_core.specs.Statements.{with_none, with_one, with_two, with_three, store_to, give, arithmetic, compares, pop, swapped, swap, prints, reads, built, constant, Charge, Paid, Unpaid, charge, charged, begun, hand_all, move_all, enter, close_all, back, yield_to, slide_of, close_of, is_counted, count_if, way, aim, drop, broken, continued, does, tested, goes_on, talk_of, talk, begins_with, start}
-use Rattle.hy_core.specs.Typing.{Among, all, Distinct, still}
-use Rattle.hy_core.specs.Shaped.{LocalsAre, ShapedAll, IsShaped, Shaped}
-use Rattle.hy_core.specs.Told.{Who, Mine, Held, Entry, Loan, Status, Own, Param, Opened, Bound, Face, Sign, Scene, set_local, with_standing, with_status, with_entry, IsOpen, none_set, all_set, is_exact, IsShutAt, MayReadAt, MayWriteAt, MayOpenAt, IndexesOk, ReadOk, ChangeOk, StoreOk, GiveOk, TakeOk, given, stored_if, stored, Leads, Stores, Computes, opened, LendOk, come_back, Without, Closes, Slides, HandOk, HandsOk, come_from, held_by, TakesOk, all_given, Calls, Projects, IsLast, TellsBuilt, Around, NoLoop, InLoop, TellsAll, Tells, first_status, first, TellsBody, Told}
-use Rattle.hy_core.specs.Told as told
-use Rattle.hy_core.proofs.Keys.{key_dec, set_same, set_other, at_key}
-use Rattle.hy_core.proofs.OpenPlaces.{Sound, nothing_open, sound_apply}
-use Rattle.hy_core.proofs.CalmTalks.{Slots, at, mem, Fine, over, stands, Good, good_calm, good_next, good_sound, GoodAt, IsOpenSo, Is, Listed, View, Begins, aim_for, exact_indexes, shut_at, good_tell, good_some, good_trap, good_turn, good_flag, good_if, good_set, good_index, good_local, MayAt, may_read, may_write, After, good_spot, good_read, good_take, good_write, good_read_number, good_read_flag, good_read_array}
-use Rattle.hy_core.proofs.CalmFrames.{Sleeping, Passes, passes_self, passes_on, leads_pass, AroundBy, WorkTold, BreakTold, AgainTold, LoopTold, RestTold, AtHead, AtTest, break_told, again_told, Sl, Top, Runs, Waits, Sleeps, ParamOf, ExtraBy, Extra, HeldIn, PendingBy, Pending, Fits, Covers, Half, listed_map, half_pass, bind, WritesBack, Binds, GoesBy, Goes, NotIn, Distinct_ids, AllBelow, below_notin, below_more, Change, half_keep, scene, waits, Framed, CallersOk, Sleeper, Others, Stands, framed_keep, callers_keep, others_keep, some_is, at_local, at_both, other_act, still_open, open_change, close_change, wake_is, view}
+use Rattle.hy_core.specs.Statements.{close_all, back}
+use Rattle.hy_core.specs.Told.{Who, Mine, Held, Sign, opened}
+use Rattle.hy_core.proofs.Keys.{set_same, set_other}
+use Rattle.hy_core.proofs.OpenPlaces.{Sound, sound_apply}
+use Rattle.hy_core.proofs.CalmTalks.{Slots, at, mem, over, stands, Good, GoodAt, good_write}
+use Rattle.hy_core.proofs.CalmFrames.{Top, Runs, Waits, Sleeps, ParamOf, ExtraBy, PendingBy, Fits, Half, listed_map, half_pass, Change, half_keep, waits, Others, Stands, framed_keep, callers_keep, still_open, view}
 
 -- STATES that differ only in what is counted
 
@@ -49,12 +37,12 @@ like_count c d l = like_with c d d.turns (suc d.opened) d.input d.output l
 pub like_id : (c d : Control) → Like c d → d.now.id ≡ c.now.id
 like_id c d l = ap (λ (d : Control). d.now.id) l.is
 
-module _ (p : Setting) (signs : ℕ → Sign) where
+module _ (p : Setting) (signs : ℕ → Sign) (halt : Option Halt) where
   abbrev pub S : Control → Slots → Type 0
-  S = Stands p signs
+  S = Stands p signs halt
 
   pub like_stands : (c d : Control) (slots : Slots) → Like c d → S c slots → S d slots
-  like_stands c d slots l s = subst (λ d. S d slots) (sym l.is) (record { number = s.number; face = s.face; half = s.half; goes = s.goes; others = s.others })
+  like_stands c d slots l s = subst (λ d. S d slots) (sym l.is) (record { same = s.same; number = s.number; face = s.face; half = s.half; goes = s.goes; others = s.others })
 
   -- CLOSING
 
@@ -93,7 +81,7 @@ module _ (p : Setting) (signs : ℕ → Sign) where
       })))
 
   -- the caller goes on when all parameters have closed
-  module _ (c : Control) (number : ℕ) (slots slots' : Slots) (C : Closed slots slots' c.now.id (length c.now.fun.lent)) where
+  module _ (c : Control) (same : c.halt ≡ halt) (number : ℕ) (slots slots' : Slots) (C : Closed slots slots' c.now.id (length c.now.fun.lent)) where
     closed_change : Change c.now.id c.now.id slots slots' (sleeper_of c.asleep) (sleeper_of c.asleep)
     closed_change = record { own = λ x j n. C.own (at x j) n; base = λ k o h n. C.fewer k o h; sleep = λ x j n. refl }
 
@@ -147,6 +135,7 @@ module _ (p : Setting) (signs : ℕ → Sign) where
         let w = X.frames.0.goes in
         let face = X.frames.0.face in
         let done : S k slots' = record {
+          same = same;
           number = X.frames.0.number;
           face = w.next;
           half = half_pass slots' (sleeper_of c.asleep) Runs a.id (length a.fun.lent) face w.next w.passes h;
@@ -156,6 +145,7 @@ module _ (p : Setting) (signs : ℕ → Sign) where
         good_write p S slots' face a.id (view slots' (sleeper_of c.asleep) a.id (length a.fun.lent) face h) (Like k) (like_count k) (like_id k) q v Next w.indexes w.free
         (λ d l vals s. stands (like_stands k d slots' l done)) k (like_self k) vals s
     good_back v (a ∷ rest) Nowhere X vals s = stands (record {
+      same = same;
       number = X.frames.0.number;
       face = X.frames.0.face;
       half = resumed_half a rest Nowhere X (λ k e. e) (λ t k e. e);

@@ -1,5 +1,5 @@
 -- Talks about places of which a face tells that they are free: each question and each change that they make is allowed.
-use Rattle.std.proofs.Common.{◌≡◌, ◌≢◌, ◌⊎◌, inl, inr, ⊎_elim, ℕ, zero, suc, ◌<◌, ◌≤◌, Bool, true, false, cond, nat_lt, List, [], ◌∷◌, ◌++◌, length, Option, Some, None, slice_get, refl, sym, ap, ◌∙◌, subst, append_assoc, append-nil, arith}
+use Rattle.std.proofs.Common.{◌≡◌, ◌≢◌, inl, inr, ℕ, zero, suc, ◌<◌, Bool, true, false, cond, nat_lt, List, [], ◌∷◌, ◌++◌, length, Option, Some, None, slice_get, refl, sym, ap, ◌∙◌, subst, append_assoc, append-nil}
 use Rattle.std.specs.Prelude.{ℤ, pos, negsuc}
 use Rattle.std.proofs.lemmas.Bool.{ltb-true}
 use Rattle.std.proofs.lemmas.Option.{slice_get_within}
@@ -8,18 +8,18 @@ use Rattle.hy_base.specs.declared.run.TrapKind.{TrapKind}
 use Rattle.hy_base.specs.declared.run.TrapKind.TheVariants as trap
 use Rattle.hy_types.specs.declared.kinds.TyId.{TyId}
 use Rattle.hy_core.specs.Plain.{Step, Part, Index, Place}
-use Rattle.hy_core.specs.Values.{Val, Unset, Number, Truth, Tuple, Product, Array, Vals, No, And, Path, many, get, put, Apart, Within, shape, Has, IsThere, is_whole}
-use Rattle.hy_core.specs.Memory.{Key, Spot, whole, Way, Reads, Writes, Origin, Copies, copying, set_at}
+use Rattle.hy_core.specs.Values.{Val, Unset, Number, Truth, Tuple, Product, Array, Vals, Path, many, get, put, Apart, Within, shape, Has, IsThere, is_whole}
+use Rattle.hy_core.specs.Memory.{Key, Spot, whole, Way, Reads, Writes, Origin, Copies, copying}
 use Rattle.hy_core.specs.Runs as op
 use Rattle.hy_core.specs.Runs.{Op, Talk, Ask, Look, Tell, Next, apply, interpret}
-use Rattle.hy_core.specs.Calm.{IsKept, IsWritable, MayLook, MayRead, MayWrite, May, IsCalm}
+use Rattle.hy_core.specs.Calm.{MayLook, MayRead, MayWrite, May, IsCalm}
 use Rattle.hy_core.specs.Operators.{index_in, blanks}
 use Rattle.hy_core.specs.Control.{Form, Numbers, Flags, Tuples, Products, Arrays, Unknown, form, part_type, element_type, blank_of, local_type, Halt, Ends, Stuck, NotSet, NotOpened, Control, Setting, stop, key, count_one, with_some, trapped, turn, with_number, with_flag, with_array, with_set, with_index, Aim, ToRead, ToWrite, at_part, at_element, walk, spot, read, take, write, read_number, read_flag, read_array}
 use Rattle.hy_core.specs.Typing.{Among, still}
-use Rattle.hy_core.specs.Told.{Who, Mine, Held, Entry, Status, Own, Param, Opened, Bound, Face, way_of, IsMine, is_exact, IsShutAt, MayReadAt, MayWriteAt, IndexesOk}
+use Rattle.hy_core.specs.Told.{Who, Entry, Status, Own, Param, Opened, Bound, Face, way_of, IsMine, is_exact, IsShutAt, MayReadAt, MayWriteAt, IndexesOk}
 use Rattle.hy_core.proofs.Keys.{set_same}
 use Rattle.hy_core.proofs.Values.{apart_back, there_append}
-use Rattle.hy_core.proofs.OpenPlaces.{there_put, get_put, apart_unset, Sound, sound_apply, store_sound}
+use Rattle.hy_core.proofs.OpenPlaces.{there_put, get_put, apart_unset, Sound, sound_apply}
 
 abbrev pub Slots : Type 0
 Slots = Key → Option Origin
@@ -195,6 +195,15 @@ aim_for Writes = ToWrite
 one : (q : Path) (i : ℕ) (r : Path) → (q ++ i ∷ []) ++ r ≡ (q ++ []) ++ (i ∷ r)
 one q i r = append_assoc q (i ∷ []) r ∙ ap (λ x. x ++ (i ∷ r)) (sym (append-nil q))
 
+-- an index in range is one of an element
+pub index_has : (n : ℕ) (i : ℤ) (j : ℕ) → index_in n i ≡ Some j → j < n
+index_has n (pos k) j e = yes (nat_lt k n) refl e
+  where
+    yes : (b : Bool) → nat_lt k n ≡ b → cond b (Some k) None ≡ Some j → j < n
+    yes true q e = let z : k ≡ j = cc in subst (λ k. k < n) z (ltb-true k n q)
+    yes false q e = absurd (cc)
+index_has n (negsuc k) j e = absurd (cc)
+
 module _ (p : Setting) (S : Control → Slots → Type 0) where
   pub good_tell : (o : Op) (t : Talk Control) (m : Copies) → Sound m → May o m → (Sound (apply copying o m) → Good S t (apply copying o m)) → Good S (Tell o t) m
   good_tell o t m x may h = (may, h (sound_apply o m may x))
@@ -244,14 +253,6 @@ module _ (p : Setting) (S : Control → Slots → Type 0) where
   pub good_index : (c : Control) (s : ℕ) (n : ℕ) (o : Option ℕ) (go : ℕ → Talk Control) (m : Copies) → ((i : ℕ) → o ≡ Some i → Good S (go i) m) → Good S (with_index p c s o go) m
   good_index c s n None go m h = good_trap c trap.Index s m
   good_index c s n (Some i) go m h = h i refl
-
-  index_has : (n : ℕ) (i : ℤ) (j : ℕ) → index_in n i ≡ Some j → j < n
-  index_has n (pos k) j e = yes (nat_lt k n) refl e
-    where
-      yes : (b : Bool) → nat_lt k n ≡ b → cond b (Some k) None ≡ Some j → j < n
-      yes true q e = let z : k ≡ j = cc in subst (λ k. k < n) z (ltb-true k n q)
-      yes false q e = absurd (cc)
-  index_has n (negsuc k) j e = absurd (cc)
 
   -- WALKS, where a face tells of what is open from the running activation; nothing of what is wanted changes on the way
 

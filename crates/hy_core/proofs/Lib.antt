@@ -21,3 +21,11 @@ pub mod CalmStatements
 pub mod CalmBodies
 pub mod CalmRuns
 pub mod ToldIsCalm
+pub mod SetValues
+pub mod SetMemories
+pub mod SetTalks
+pub mod SetFrames
+pub mod SetSteps
+pub mod SetBodies
+pub mod SetEntries
+pub mod SetRuns

@@ -1,12 +1,12 @@
 -- In a calm run of the memory that copies, each open place is there, and a place that is open for change lies apart from the others.
-use Rattle.std.proofs.Common.{◌≡◌, ◌≢◌, ◌⊎◌, inl, inr, ⊎_elim, ℕ, [], ◌∷◌, ◌++◌, Option, Some, None, refl, sym, ap, ◌∙◌, subst, append-nil}
+use Rattle.std.proofs.Common.{◌≡◌, ◌≢◌, ◌⊎◌, inl, inr, ⊎_elim, ℕ, [], ◌∷◌, ◌++◌, Some, None, refl, sym, ap, ◌∙◌, subst, append-nil}
 use Rattle.std.proofs.lemmas.Bool.Decides.{eqb_tells}
-use Rattle.hy_core.specs.Values.{Val, Unset, Path, get, put, Apart, IsThere, shape, Has, part, with_part}
+use Rattle.hy_core.specs.Values.{Val, Unset, Path, get, put, Apart, IsThere, shape, Has, part}
 use Rattle.hy_core.specs.Memory.{Key, Spot, whole, Way, Reads, Writes, way_of, Origin, Copies, set_at, put_back, close_copy, lend_copy, copying, no_copies}
 use Rattle.hy_core.specs.Runs.{Op, Store, Change, Clear, Lend, Hand, Close, Quit, apply}
-use Rattle.hy_core.specs.Calm.{IsShut, MayRead, MayWrite, MayOpen, MayLend, MayHand, MayClose, May}
-use Rattle.hy_core.proofs.Keys.{key_dec, set_same, set_other, at_key}
-use Rattle.hy_core.proofs.Values.{apart_sym, get_put_below, there_append, there_put_below, there_put_apart}
+use Rattle.hy_core.specs.Calm.{IsShut, MayWrite, MayOpen, MayClose, May}
+use Rattle.hy_core.proofs.Keys.{at_key}
+use Rattle.hy_core.proofs.Values.{apart_sym, get_put_below, there_put_below, there_put_apart}
 
 -- PATHS
 

@@ -686,7 +686,7 @@ module _ (p : Setting) where
         subst (λ (o : Option Halt). Fine Stands (interpret copying (talk_of p c o) m).control (interpret copying (talk_of p c o) m).memory) (sym x.base.none)
         (good_next Stands (goes_on p c c.now.work) m (good_goes x.forms x.count x.fun x.yielded c m c.now.work x.base x.on x.typed))
 
-    halted : (k : ℕ) (c : Control) (m : Copies) (h : Halt) → c.halt ≡ Some h → (steps copying (talk p) k c m).control.halt ≡ Some h
+    pub halted : (k : ℕ) (c : Control) (m : Copies) (h : Halt) → c.halt ≡ Some h → (steps copying (talk p) k c m).control.halt ≡ Some h
     halted zero c m h e = e
     halted (suc k) c m h e =
         subst (λ (o : Option Halt). (steps copying (talk p) k (interpret copying (talk_of p c o) m).control (interpret copying (talk_of p c o) m).memory).control.halt ≡ Some h) (sym e) (halted k c m h e)

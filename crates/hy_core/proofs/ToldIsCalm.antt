@@ -1,44 +1,34 @@
 -- A checked core that is told is calm in every run.
-use Rattle.std.proofs.Common.{◌≡◌, ◌≢◌, ◌⊎◌, inl, inr, ⊎_elim, ℕ, zero, suc, ◌+◌, ◌<◌, ◌≤◌, Bool, true, false, cond, nat_lt, if◌then◌else◌, List, [], ◌∷◌, ◌++◌, length, Option, Some, None, slice_get, refl, sym, ap, ◌∙◌, subst, append-nil, arith}
-use Rattle.std.specs.Prelude.{ℤ, pos, neg_ℤ, not, ◌+ℤ◌, ◌-ℤ◌, ◌*ℤ◌, int_div, int_rem, int_lt, int_le}
-use Rattle.std.proofs.lemmas.Bool.{ltb-true}
+use Rattle.std.proofs.Common.{◌≡◌, ◌≢◌, ◌⊎◌, inl, inr, ⊎_elim, ℕ, zero, suc, ◌+◌, Bool, true, false, cond, List, [], ◌∷◌, length, Option, Some, None, slice_get, refl, sym, ap, ◌∙◌, subst, arith}
 use Rattle.std.proofs.lemmas.Bool.Decides.{eqb_tells}
 use Rattle.hy_base.specs.declared.run.End.TheVariants as end
-use Rattle.hy_base.specs.declared.run.TrapKind.TheVariants as trap
-use Rattle.hy_types.specs.declared.kinds.TyId.{TyId}
-use Rattle.hy_core.specs.Plain.{Place, Operator, Add, Sub, Mul, Div, Rem, Neg, Eq, Lt, Le, Not, NewArray, Push, Pop, Swap, Count, FreeArray, Print, Read, Check, Stmts, Done, Then, Stmt, Built, Set, Lend, Close, Move, Copy, Drop, Call, Project, Slide, Yield, If, While, Break, Continue, Leave, Fun, Core}
-use Rattle.hy_core.specs.Values.{Val, Unset, Number, Truth, Array, Vals, No, And, Path, many, nth, get, Apart, IsThere}
-use Rattle.hy_core.specs.Memory.{Key, Spot, whole, set_at, Way, Reads, Writes, Origin, Copies, close_copy, copying, no_copies}
-use Rattle.hy_core.specs.Memory as memory
+use Rattle.hy_core.specs.Plain.{Place, Done, Then, Stmt, Built, Set, Lend, Close, Move, Copy, Drop, Call, Project, Slide, Yield, If, While, Break, Continue, Leave, Fun}
+use Rattle.hy_core.specs.Values.{Val}
+use Rattle.hy_core.specs.Memory.{Key, Reads, Writes, Origin, Copies, copying, no_copies}
 use Rattle.hy_core.specs.Runs as op
 use Rattle.hy_core.specs.Runs.{Talk, Ask, Look, Tell, Next, apply, interpret, steps}
-use Rattle.hy_base.specs.Lines.{Got, read_line}
-use Rattle.hy_base.specs.Lines as lines
-use Rattle.hy_core.specs.Operators.{same_flags, Result, Gives, Traps, fitting, divided, equal, line_of, index_in, at_end, popped}
-use Rattle.hy_core.specs.Calm.{MayRead, MayWrite, MayOpen, MayLend, MayHand, MayClose, IsCalm, StaysCalm}
+use Rattle.hy_core.specs.Operators.{same_flags}
+use Rattle.hy_core.specs.Calm.{StaysCalm}
 use Rattle.hy_core.specs.Control.{Form, form, local_type, Work, Idle, Rest, Loop, Test, Drops, Dest, Opens, Nowhere, Activation, Nap, Halt, Ends, Stuck, NotSet, NotOpened, Control, Stage, Deinitialises, GivesUp, Setting, stop, with_work, key, count_one, with_some, trapped, turn, with_flag, spot, read, take, write, read_number, read_flag, read_array, sleeper_of, wake}
 use Rattle.hy_core.specs.Control as control
-use Rattle.hy_core.specs.Statements.{with_none, with_one, with_two, with_three, store_to, give, arithmetic, compares, pop, swapped, swap, prints, reads, built, constant, Charge, Paid, Unpaid, charge, charged, begun, hand_all, move_all, enter, close_all, back, yield_to, slide_of, close_of, is_counted, count_if, way, aim, drop, broken, continued, does, tested, goes_on, talk_of, talk, begins_with, start}
-use Rattle.hy_core.specs.Typing.{Among, all, Distinct, still}
-use Rattle.hy_core.specs.Shaped.{LocalsAre, ShapedAll, IsShaped, Shaped}
-use Rattle.hy_core.specs.Told.{Who, Mine, Held, Entry, Loan, Status, Own, Param, Opened, Bound, Face, Sign, Scene, set_local, with_standing, with_status, with_entry, IsOpen, none_set, all_set, is_exact, IsShutAt, MayReadAt, MayWriteAt, MayOpenAt, IndexesOk, ReadOk, ChangeOk, StoreOk, GiveOk, TakeOk, given, stored_if, stored, Leads, Stores, Computes, opened, LendOk, come_back, Without, Closes, Slides, HandOk, HandsOk, come_from, held_by, TakesOk, all_given, Calls, Projects, IsLast, TellsBuilt, Around, NoLoop, InLoop, TellsAll, Tells, first_status, first, TellsBody, Told, scene_of}
-use Rattle.hy_core.specs.Told as told
-use Rattle.hy_core.proofs.Keys.{key_dec, set_same, set_other, at_key}
-use Rattle.hy_core.proofs.OpenPlaces.{Sound, nothing_open, sound_apply}
-use Rattle.hy_core.proofs.CalmTalks.{Slots, at, mem, Fine, over, stands, Good, good_calm, good_next, good_sound, GoodAt, IsOpenSo, Is, Listed, View, Begins, aim_for, exact_indexes, shut_at, good_tell, good_some, good_trap, good_turn, good_flag, good_if, good_set, good_index, good_local, MayAt, may_read, may_write, After, good_spot, good_read, good_take, good_write, good_read_number, good_read_flag, good_read_array}
-use Rattle.hy_core.proofs.CalmFrames.{Sleeping, Passes, passes_self, passes_on, leads_pass, AroundBy, WorkTold, BreakTold, AgainTold, LoopTold, RestTold, AtHead, AtTest, break_told, again_told, Sl, Top, Runs, Waits, Sleeps, ParamOf, ExtraBy, Extra, HeldIn, PendingBy, Pending, Fits, Covers, Half, listed_map, half_pass, bind, WritesBack, Binds, GoesBy, Goes, NotIn, Distinct_ids, AllBelow, below_notin, below_more, Change, half_keep, scene, waits, Framed, CallersOk, Sleeper, Others, Stands, framed_keep, callers_keep, others_keep, some_is, at_local, at_both, other_act, still_open, open_change, close_change, wake_is, view}
-use Rattle.hy_core.proofs.CalmSteps.{Like, like_self, like_with, like_count, like_id, S, like_stands, good_close, Closed, good_close_all, TopOf, good_back}
-use Rattle.hy_core.proofs.CalmStatements.{given_pass, stored_pass, all_given_pass, come_from_pass, come_from_back, Ended, closes_end, slides_end, fine, fine_work, takes, values, writes, stores, some_at, built_good}
+use Rattle.hy_core.specs.Statements.{constant, Charge, Paid, Unpaid, charge, charged, begun, hand_all, enter, is_counted, drop, broken, continued, does, tested, goes_on, talk_of, talk, begins_with, start}
+use Rattle.hy_core.specs.Typing.{Among, Distinct}
+use Rattle.hy_core.specs.Shaped.{ShapedAll, IsShaped, Shaped}
+use Rattle.hy_core.specs.Told.{Who, Mine, Held, Entry, Own, Face, Sign, Scene, with_entry, IsOpen, IsShutAt, StoreOk, GiveOk, given, stored, Leads, Stores, Closes, Slides, HandsOk, come_from, held_by, TakesOk, all_given, Calls, Projects, Around, NoLoop, InLoop, Tells, first_status, first, TellsBody, scene_of}
+use Rattle.hy_core.proofs.OpenPlaces.{Sound, nothing_open}
+use Rattle.hy_core.proofs.CalmTalks.{Slots, at, mem, Fine, over, stands, Good, good_calm, good_next, good_sound, GoodAt, Is, Listed, View, good_tell, good_some, good_turn, good_flag, good_if, good_local, may_write, good_spot, good_take}
+use Rattle.hy_core.proofs.CalmFrames.{Passes, passes_self, passes_on, leads_pass, AroundBy, WorkTold, BreakTold, AgainTold, break_told, again_told, Sl, Runs, Waits, Fits, Half, listed_map, half_pass, scene, waits, Others, Stands, view}
+use Rattle.hy_core.proofs.CalmSteps.{Like, like_self, like_with, like_count, like_id}
+use Rattle.hy_core.proofs.CalmStatements.{given_pass, stored_pass, all_given_pass, come_from_pass, come_from_back, closes_end, slides_end, fine, fine_work, takes, values, stores, built_good}
 use Rattle.hy_core.proofs.CalmBodies.{lend_good, close_good, leave_good, slide_good}
 use Rattle.hy_core.specs.Meaning.{Run, setting, TouchesCalmly, NeverHalts}
 use Rattle.hy_core.specs.Ready.{Ready, ReadyCoresAgree}
 use Rattle.hy_core.proofs.LockStep.{meanings_agree}
-use Rattle.hy_core.proofs.CalmTalks.{good_index}
-use Rattle.hy_core.proofs.CalmRuns.{Handing, Handed, handing_first, Lent, AllHanded, hands_good, moves_good, are_lent, waiting_half, begins_so, yield_good, open_of, now_fresh}
+use Rattle.hy_core.proofs.CalmRuns.{Handing, Handed, handing_first, AllHanded, hands_good, moves_good, are_lent, waiting_half, begins_so, yield_good, open_of}
 
 -- ENTRIES of what is lent to a subscript
 
-held_status : (x : Scene) (to : ℕ) (g : Face) (s : Sign) (i : ℕ) (ls : List ℕ) → (held_by x to g s i ls).status ≡ g.status
+pub held_status : (x : Scene) (to : ℕ) (g : Face) (s : Sign) (i : ℕ) (ls : List ℕ) → (held_by x to g s i ls).status ≡ g.status
 held_status x to g s i [] = refl
 held_status x to g s i (l ∷ ls) = held_status x to (with_entry g (record { who = Held to; base = l; path = []; way = (s.lent i).way })) s (suc i) ls
 
@@ -59,7 +49,7 @@ handed_open x h s i (k ∷ ls) l ok own (inr m) = handed_open x h s (suc i) ls l
 
 module _ (p : Setting) (signs : ℕ → Sign) (stage : p.stage ≡ GivesUp) (sh : Shaped p.core)
     (each : (n : ℕ) (f : Fun) → slice_get p.core.funs n ≡ Some f → TellsBody (scene_of GivesUp p.core signs n f)) where
-  abbrev TS : Control → Slots → Type 0
+  abbrev pub TS : Option Halt → Control → Slots → Type 0
   TS = Stands p signs
 
   module _ (c : Control) (slots : Slots) (number : ℕ) (g : Face) (half : Half slots (sleeper_of c.asleep) Runs c.now.id (length c.now.fun.lent) g)
@@ -95,23 +85,23 @@ module _ (p : Setting) (signs : ℕ → Sign) (stage : p.stage ≡ GivesUp) (sh 
         → ((f : Fun) (turns n_opened : ℕ) (input output : List ℕ) → slice_get p.core.funs n ≡ Some f → (slots2 : Slots)
         → AllHanded p signs c slots number g half others turns n_opened input output (signs n) (all_given (scene p signs number c.now.fun) g owned) (all_given_pass (scene p signs number c.now.fun) g owned)
         (turn (record c { turns = turns; opened = n_opened; input = input; output = output }) turns (λ c. Next (begun c f dest))) slots slots2 0 lent f.lent
-        → (j : ℕ) → TS (begun (record c { turns = j; opened = n_opened; input = input; output = output }) f dest) slots2)
-        → GoodAt TS (enter p c ramp (slice_get p.core.funs n) lent owned dest) slots
+        → (j : ℕ) → TS c.halt (begun (record c { turns = j; opened = n_opened; input = input; output = output }) f dest) slots2)
+        → GoodAt (TS c.halt) (enter p c ramp (slice_get p.core.funs n) lent owned dest) slots
     enter_good ramp n lent owned dest ok dist hands next = starts (slice_get p.core.funs n) refl
       where
-        after : (f : Fun) → slice_get p.core.funs n ≡ Some f → (e : Control) → Like c e → GoodAt TS (hand_all e e.started zero lent f.lent (turn e e.turns (λ c. Next (begun c f dest)))) slots
-        after f found e l = subst (λ e. GoodAt TS (hand_all e e.started zero lent f.lent (turn e e.turns (λ c. Next (begun c f dest)))) slots) (sym l.is)
+        after : (f : Fun) → slice_get p.core.funs n ≡ Some f → (e : Control) → Like c e → GoodAt (TS c.halt) (hand_all e e.started zero lent f.lent (turn e e.turns (λ c. Next (begun c f dest)))) slots
+        after f found e l = subst (λ e. GoodAt (TS c.halt) (hand_all e e.started zero lent f.lent (turn e e.turns (λ c. Next (begun c f dest)))) slots) (sym l.is)
             (hands_good p signs c slots number g half others l.turns l.opened l.input l.output (signs n) (all_given (scene p signs number c.now.fun) g owned) (all_given_pass (scene p signs number c.now.fun) g owned)
             (turn (record c { turns = l.turns; opened = l.opened; input = l.input; output = l.output }) l.turns (λ c. Next (begun c f dest))) lent f.lent 0 slots
             (handing_first p signs c slots number g half others lent) dist hands
-            (λ slots2 A vals s. good_turn p TS (record c { turns = l.turns; opened = l.opened; input = l.input; output = l.output }) l.turns (λ c. Next (begun c f dest)) (mem slots2 vals) (λ j. stands (next f l.turns l.opened l.input l.output found slots2 A j))))
+            (λ slots2 A vals s. good_turn p (TS c.halt) (record c { turns = l.turns; opened = l.opened; input = l.input; output = l.output }) l.turns (λ c. Next (begun c f dest)) (mem slots2 vals) (λ j. stands (next f l.turns l.opened l.input l.output found slots2 A j))))
 
-        starts : (o : Option Fun) → slice_get p.core.funs n ≡ o → GoodAt TS (enter p c ramp o lent owned dest) slots
+        starts : (o : Option Fun) → slice_get p.core.funs n ≡ o → GoodAt (TS c.halt) (enter p c ramp o lent owned dest) slots
         starts None e vals s = over Stuck refl (λ e. absurd (cc))
-        starts (Some f) e vals s = good_if p TS (same_flags f.ramp ramp) c Stuck _ (mem slots vals) (λ e. absurd (cc)) (λ _.
+        starts (Some f) e vals s = good_if p (TS c.halt) (same_flags f.ramp ramp) c Stuck _ (mem slots vals) (λ e. absurd (cc)) (λ _.
             moves_good p signs c slots number g half others _ (after f e) g (passes_self g) owned f.owned (length f.lent) ok c (like_self c) vals s)
 
-    call_good : (n : ℕ) (lent : List ℕ) (owned : List Place) (to : Place) (d : Face) → Distinct lent → Calls (scene p signs number c.now.fun) g n lent owned to d → Left d → GoodAt TS (does p c (Call n lent owned to)) slots
+    call_good : (n : ℕ) (lent : List ℕ) (owned : List Place) (to : Place) (d : Face) → Distinct lent → Calls (scene p signs number c.now.fun) g n lent owned to d → Left d → GoodAt (TS c.halt) (does p c (Call n lent owned to)) slots
     call_good n lent owned to d dist t w = enter_good false n lent owned (control.Result to) t.0 dist t.1 (λ f turns n_opened input output found slots2 A j.
         let z : 0 + length f.lent ≡ length f.lent = omega arith in
         let H = subst (λ k. Handing p signs c slots number g half others slots2 k []) z A.handing in
@@ -141,7 +131,7 @@ module _ (p : Setting) (signs : ℕ → Sign) (stage : p.stage ≡ GivesUp) (sh 
         wait f (Mine j) q u = u
         wait f (Held t) q u = u
 
-    project_good : (n : ℕ) (lent : List ℕ) (owned : List Place) (to : ℕ) (d : Face) → Distinct lent → Projects (scene p signs number c.now.fun) g n lent owned to d → Left d → GoodAt TS (does p c (Project n lent owned to)) slots
+    project_good : (n : ℕ) (lent : List ℕ) (owned : List Place) (to : ℕ) (d : Face) → Distinct lent → Projects (scene p signs number c.now.fun) g n lent owned to d → Left d → GoodAt (TS c.halt) (does p c (Project n lent owned to)) slots
     project_good n lent owned to d dist t w = enter_good true n lent owned (Opens to) t.0 dist t.1 (λ f turns n_opened input output found slots2 A j.
         let z : 0 + length f.lent ≡ length f.lent = omega arith in
         let H = subst (λ k. Handing p signs c slots number g half others slots2 k []) z A.handing in
@@ -192,21 +182,21 @@ module _ (p : Setting) (signs : ℕ → Sign) (stage : p.stage ≡ GivesUp) (sh 
 
     -- STATEMENTS
 
-    drop_good : (place : Place) (d : Face) → GiveOk (scene p signs number c.now.fun) g place → Leads (scene p signs number c.now.fun) (given (scene p signs number c.now.fun) g place) d → Left d → (s : Stage) → s ≡ GivesUp → GoodAt TS (drop p s c place) slots
+    drop_good : (place : Place) (d : Face) → GiveOk (scene p signs number c.now.fun) g place → Leads (scene p signs number c.now.fun) (given (scene p signs number c.now.fun) g place) d → Left d → (s : Stage) → s ≡ GivesUp → GoodAt (TS c.halt) (drop p s c place) slots
     drop_good place d ok leads w Deinitialises e = absurd (cc)
-    drop_good place d ok leads w GivesUp e = good_take p TS slots g c.now.id now_view (Like c) (like_count c) (like_id c) place _ ok.exact ok.free
+    drop_good place d ok leads w GivesUp e = good_take p (TS c.halt) slots g c.now.id now_view (Like c) (like_count c) (like_id c) place _ ok.exact ok.free
         (λ e v l. fine p signs c slots number g half others d (passes_on g (given x g place) d (given_pass x g place) (leads_pass x _ d leads)) w e l) c (like_self c)
 
-    copy_good : (to : Place) (d : Face) → Stores (scene p signs number c.now.fun) g (Some to) d → Left d → (v : Val) (y : Charge) (e : Control) → Like c e → GoodAt TS (charged e y (λ c. write p c to v Next)) slots
+    copy_good : (to : Place) (d : Face) → Stores (scene p signs number c.now.fun) g (Some to) d → Left d → (v : Val) (y : Charge) (e : Control) → Like c e → GoodAt (TS c.halt) (charged e y (λ c. write p c to v Next)) slots
     copy_good to d t w v (Paid k o) e l = stores p signs c slots number g half others g (passes_self g) (Some to) d t w v (record e { turns = k; opened = o }) (like_with c e k o e.input e.output l)
     copy_good to d t w v (Unpaid o) e l = λ vals s. over (Ends end.Spent) refl (λ e. absurd (cc))
 
     statement_good : (a : Around (scene p signs number c.now.fun)) (s : Stmt) (d : Face) → Tells (scene p signs number c.now.fun) a g s d → IsShaped p.core c.now.fun s → Left d
-        → AroundBy (scene p signs number c.now.fun) a (BreakTold (scene p signs number c.now.fun) c.now.work) (AgainTold (scene p signs number c.now.fun) c.now.work) → GoodAt TS (does p c s) slots
+        → AroundBy (scene p signs number c.now.fun) a (BreakTold (scene p signs number c.now.fun) c.now.work) (AgainTold (scene p signs number c.now.fun) c.now.work) → GoodAt (TS c.halt) (does p c s) slots
     statement_good a (Built o to from spans) d t is w out = built_good p signs c slots number g half others o to from spans d t w c (like_self c)
-    statement_good a (Set to n) d t is w out = good_spot p TS slots g c.now.id now_view (Like c) (like_count c) (like_id c) Writes to _ t.0.indexes t.0.free (λ e vals u ty l s begins there.
-        good_some p TS e (constant (form p.core.types ty) n) _ (mem slots vals) (λ v _.
-        good_tell p TS (op.Store (record { key = at c.now.id to.local; path = u }) v) (Next e) (mem slots vals) s (may_write p TS slots g c.now.id now_view (Like c) (like_count c) (like_id c) vals to.local _ u t.0.free begins there)
+    statement_good a (Set to n) d t is w out = good_spot p (TS c.halt) slots g c.now.id now_view (Like c) (like_count c) (like_id c) Writes to _ t.0.indexes t.0.free (λ e vals u ty l s begins there.
+        good_some p (TS c.halt) e (constant (form p.core.types ty) n) _ (mem slots vals) (λ v _.
+        good_tell p (TS c.halt) (op.Store (record { key = at c.now.id to.local; path = u }) v) (Next e) (mem slots vals) s (may_write p (TS c.halt) slots g c.now.id now_view (Like c) (like_count c) (like_id c) vals to.local _ u t.0.free begins there)
         (λ s. fine p signs c slots number g half others d (passes_on g (stored x g to) d (stored_pass x g to) (leads_pass x _ d t.1)) w e l _ s))) c (like_self c)
     statement_good a (Lend to place true) d t is w out = lend_good p signs c slots number g half others to place Writes (is_counted place.steps) d t.0 t.1 w
     statement_good a (Lend to place false) d t is w out = lend_good p signs c slots number g half others to place Reads (is_counted place.steps) d t.0 t.1 w
@@ -221,29 +211,29 @@ module _ (p : Setting) (signs : ℕ → Sign) (stage : p.stage ≡ GivesUp) (sh 
     statement_good a (Slide l) d t is w out = let sl : Slides (scene p signs number c.now.fun) g l d = t.2 in slide_good p signs c slots number g half others l t.0 d t.1 sl.0 (slides_end x g l d sl.2) w
     statement_good a (Yield l) d t is w out = yield_good p signs c slots number g half others l d (record { status = t.5.status; entries = t.5.entries }) w
         (open_of p signs c slots number g half others (g.status l) (signs number).yields (slots (at c.now.id l)) (half.status l) t.2) t.3 c.callers c.now.dest others
-    statement_good a (If on u v) d t is w out = good_local p TS slots g c.now.id now_view (Like c) (like_count c) (like_id c) c on (λ y. with_flag c y (λ b. Next (with_work c (Rest (cond b u v) c.now.work)))) (like_self c) t.0
-        (λ y vals s. good_flag p TS c y (λ b. Next (with_work c (Rest (cond b u v) c.now.work))) (mem slots vals) (λ b. branch b vals s))
+    statement_good a (If on u v) d t is w out = good_local p (TS c.halt) slots g c.now.id now_view (Like c) (like_count c) (like_id c) c on (λ y. with_flag c y (λ b. Next (with_work c (Rest (cond b u v) c.now.work)))) (like_self c) t.0
+        (λ y vals s. good_flag p (TS c.halt) c y (λ b. Next (with_work c (Rest (cond b u v) c.now.work))) (mem slots vals) (λ b. branch b vals s))
       where
-        branch : (b : Bool) → GoodAt TS (Next (with_work c (Rest (cond b u v) c.now.work))) slots
+        branch : (b : Bool) → GoodAt (TS c.halt) (Next (with_work c (Rest (cond b u v) c.now.work))) slots
         branch true = fine_work p signs c slots number g half others g (Rest u c.now.work) (passes_self g) (record { around = a; last = d; tells = t.2; shaped = is.1; outer = out; next = w })
         branch false = fine_work p signs c slots number g half others g (Rest v c.now.work) (passes_self g) (record { around = a; last = d; tells = t.3; shaped = is.2; outer = out; next = w })
     statement_good a (While head on body) d t is w out = fine_work p signs c slots number g half others g (Loop head on body c.now.work) (passes_self g) (record {
       first = t.0;
       leads = leads_pass x g t.0 t.2;
-      loop = record { test = t.1; out = d; tells = t.3; read = t.4; pass = t.6; leaves = t.7; shaped_head = is.0; shaped_body = is.2; next = w };
+      loop = record { test = t.1; out = d; tells = t.3; read = t.4; set = t.5; flag = is.1; pass = t.6; leaves = t.7; shaped_head = is.0; shaped_body = is.2; next = w };
     })
     statement_good NoLoop Break d t is w out = absurd t
-    statement_good (InLoop behind again) Break d t is w out = λ vals s. good_some p TS c (broken c.now.work) _ (mem slots vals) (λ v e.
+    statement_good (InLoop behind again) Break d t is w out = λ vals s. good_some p (TS c.halt) c (broken c.now.work) _ (mem slots vals) (λ v e.
         fine_work p signs c slots number g half others behind v (leads_pass x g behind t) (break_told x c.now.work v behind e out.0) vals s)
     statement_good NoLoop Continue d t is w out = absurd t
-    statement_good (InLoop behind again) Continue d t is w out = λ vals s. good_some p TS c (continued c.now.work) _ (mem slots vals) (λ v e.
+    statement_good (InLoop behind again) Continue d t is w out = λ vals s. good_some p (TS c.halt) c (continued c.now.work) _ (mem slots vals) (λ v e.
         fine_work p signs c slots number g half others again v (leads_pass x g again t) (again_told x c.now.work v again e out.1) vals s)
     statement_good a (Leave from) d t is w out = leave_good p signs c slots number g half others from t.0 t.1
 
   -- RUNS
 
   goes_good : (c : Control) (slots : Slots) (number : ℕ) (g : Face) (half : Half slots (sleeper_of c.asleep) Runs c.now.id (length c.now.fun.lent) g)
-      (others : Others p signs slots (sleeper_of c.asleep) c.now.id c.started (waits p signs c.now number) c.callers) (w : Work) → WorkTold (scene p signs number c.now.fun) w g → GoodAt TS (goes_on p c w) slots
+      (others : Others p signs slots (sleeper_of c.asleep) c.now.id c.started (waits p signs c.now number) c.callers) (w : Work) → WorkTold (scene p signs number c.now.fun) w g → GoodAt (TS c.halt) (goes_on p c w) slots
   goes_good c slots number g half others Idle t = λ vals s. over Stuck refl (λ e. absurd (cc))
   goes_good c slots number g half others (Rest Done w) t = fine_work p signs c slots number g half others t.last w (leads_pass (scene p signs number c.now.fun) g t.last t.tells) t.next
   goes_good c slots number g half others (Rest (Then s ss) w) t = let h = t.tells in let is : IsShaped p.core c.now.fun s × ShapedAll p.core c.now.fun ss = t.shaped in
@@ -251,35 +241,48 @@ module _ (p : Setting) (signs : ℕ → Sign) (stage : p.stage ≡ GivesUp) (sh 
   goes_good c slots number g half others (Loop head on body w) t = fine_work p signs c slots number g half others t.first (Rest head (Test head on body w)) t.leads
       (record { around = NoLoop; last = t.loop.test; tells = t.loop.tells; shaped = t.loop.shaped_head; outer = tt; next = record { first = t.first; loop = t.loop; leads = passes_self t.loop.test } })
   goes_good c slots number g half others (Test head on body w) t =
-      good_local p TS slots t.loop.test c.now.id (view slots (sleeper_of c.asleep) c.now.id (length c.now.fun.lent) t.loop.test (half_pass slots (sleeper_of c.asleep) Runs c.now.id (length c.now.fun.lent) g t.loop.test t.leads half))
-      (Like c) (like_count c) (like_id c) c on (λ y. with_flag c y (tested c head on body w)) (like_self c) t.loop.read (λ y vals s. good_flag p TS c y (tested c head on body w) (mem slots vals) (λ b. pass b vals s))
+      good_local p (TS c.halt) slots t.loop.test c.now.id (view slots (sleeper_of c.asleep) c.now.id (length c.now.fun.lent) t.loop.test (half_pass slots (sleeper_of c.asleep) Runs c.now.id (length c.now.fun.lent) g t.loop.test t.leads half))
+      (Like c) (like_count c) (like_id c) c on (λ y. with_flag c y (tested c head on body w)) (like_self c) t.loop.read (λ y vals s. good_flag p (TS c.halt) c y (tested c head on body w) (mem slots vals) (λ b. pass b vals s))
     where
-      on_turn : (j : ℕ) → GoodAt TS (Next (with_work (record c { turns = j }) (Rest body (Loop head on body w)))) slots
+      on_turn : (j : ℕ) → GoodAt (TS c.halt) (Next (with_work (record c { turns = j }) (Rest body (Loop head on body w)))) slots
       on_turn j = fine_work p signs (record c { turns = j }) slots number g half others t.loop.test (Rest body (Loop head on body w)) t.leads
           (record { around = InLoop t.loop.out t.first; last = t.first; tells = t.loop.pass; shaped = t.loop.shaped_body; outer = (t.loop.next, t.loop); next = record { first = t.first; leads = passes_self t.first; loop = t.loop } })
 
-      pass : (b : Bool) → GoodAt TS (tested c head on body w b) slots
+      pass : (b : Bool) → GoodAt (TS c.halt) (tested c head on body w b) slots
       pass false = fine_work p signs c slots number g half others t.loop.out w (passes_on g t.loop.test t.loop.out t.leads (leads_pass (scene p signs number c.now.fun) t.loop.test t.loop.out t.loop.leaves)) t.loop.next
-      pass true = λ vals s. good_turn p TS c c.turns _ (mem slots vals) (λ j. on_turn j vals s)
+      pass true = λ vals s. good_turn p (TS c.halt) c c.turns _ (mem slots vals) (λ j. on_turn j vals s)
   goes_good c slots number g half others (Drops ts w) t = absurd t
 
-  talk_good : (c : Control) (m : Copies) → Fine TS c m.opened → Sound m → Good TS (talk p c) m
+  pub talk_good : (c : Control) (m : Copies) → Fine (TS None) c m.opened → Sound m → Good (TS None) (talk p c) m
   talk_good c m fi s = go c.halt refl fi
     where
-      go : (e : Option Halt) → c.halt ≡ e → Fine TS c m.opened → Good TS (talk_of p c e) m
+      go : (e : Option Halt) → c.halt ≡ e → Fine (TS None) c m.opened → Good (TS None) (talk_of p c e) m
       go None q (over e h n) = absurd (cc)
-      go None q (stands x) = goes_good c m.opened x.number x.face x.half x.others c.now.work x.goes m.value s
+      go None q (stands x) = subst (λ h. Good (TS h) (goes_on p c c.now.work) m) q (goes_good c m.opened x.number x.face x.half x.others c.now.work x.goes m.value s)
       go (Some e) q fi = fi
 
-  stays_calm : (n : ℕ) (c : Control) (m : Copies) → Fine TS c m.opened → Sound m → StaysCalm (talk p) n c m
+  stays_calm : (n : ℕ) (c : Control) (m : Copies) → Fine (TS None) c m.opened → Sound m → StaysCalm (talk p) n c m
   stays_calm zero c m fi s = tt
   stays_calm (suc n) c m fi s =
       let h = talk_good c m fi s in
       let z = interpret copying (talk p c) m in
-      (good_calm TS (talk p c) m h, stays_calm n z.control z.memory (good_next TS (talk p c) m h) (good_sound TS (talk p c) m h s))
+      (good_calm (TS None) (talk p c) m h, stays_calm n z.control z.memory (good_next (TS None) (talk p c) m h) (good_sound (TS None) (talk p c) m h s))
 
-  first_stands : (f : Fun) (input : List ℕ) (turns : ℕ) (halt : Option Halt) → slice_get p.core.funs 0 ≡ Some f → f.lent ≡ [] → TS (begins_with (Some f) input turns halt) (λ _. None)
+  -- what has stopped has closed only what was opened
+  fine_closes : (c : Control) (slots : Slots) → Fine (TS None) c slots → c.halt ≢ Some NotOpened
+  fine_closes c slots (over h e n) q = n (let z : Some h ≡ Some NotOpened = sym e ∙ q in cc)
+  fine_closes c slots (stands x) q = let z : None ≡ Some NotOpened = sym x.same ∙ q in absurd (cc)
+
+  stays_closing : (n : ℕ) (c : Control) (m : Copies) → Fine (TS None) c m.opened → Sound m → (steps copying (talk p) n c m).control.halt ≢ Some NotOpened
+  stays_closing zero c m fi s = fine_closes c m.opened fi
+  stays_closing (suc n) c m fi s =
+      let h = talk_good c m fi s in
+      let z = interpret copying (talk p c) m in
+      stays_closing n z.control z.memory (good_next (TS None) (talk p c) m h) (good_sound (TS None) (talk p c) m h s)
+
+  first_stands : (f : Fun) (input : List ℕ) (turns : ℕ) (halt : Option Halt) → slice_get p.core.funs 0 ≡ Some f → f.lent ≡ [] → TS halt (begins_with (Some f) input turns halt) (λ _. None)
   first_stands f input turns halt e none = record {
+    same = refl;
     number = 0;
     face = first (scene p signs 0 f);
     half = record {
@@ -301,12 +304,15 @@ module _ (p : Setting) (signs : ℕ → Sign) (stage : p.stage ≡ GivesUp) (sh 
     };
   }
 
-  start_fine : (input : List ℕ) (turns : ℕ) → Fine TS (start p.core input turns) (λ _. None)
-  start_fine input zero = let main = sh.main in subst (λ (o : Option Fun). Fine TS (begins_with o input zero (Some (Ends end.Spent))) (λ _. None)) (sym main.1) (over (Ends end.Spent) refl (λ e. absurd (cc)))
-  start_fine input (suc n) = let main = sh.main in subst (λ (o : Option Fun). Fine TS (begins_with o input n None) (λ _. None)) (sym main.1) (stands (first_stands main.0 input n None main.1 main.2.lent))
+  pub start_fine : (input : List ℕ) (turns : ℕ) → Fine (TS None) (start p.core input turns) (λ _. None)
+  start_fine input zero = let main = sh.main in subst (λ (o : Option Fun). Fine (TS None) (begins_with o input zero (Some (Ends end.Spent))) (λ _. None)) (sym main.1) (over (Ends end.Spent) refl (λ e. absurd (cc)))
+  start_fine input (suc n) = let main = sh.main in subst (λ (o : Option Fun). Fine (TS None) (begins_with o input n None) (λ _. None)) (sym main.1) (stands (first_stands main.0 input n None main.1 main.2.lent))
 
   pub calm_from_start : (k : ℕ) (input : List ℕ) (turns : ℕ) → StaysCalm (talk p) k (start p.core input turns) no_copies
   calm_from_start k input turns = stays_calm k (start p.core input turns) no_copies (start_fine input turns) nothing_open
+
+  pub closing_from_start : (k : ℕ) (input : List ℕ) (turns : ℕ) → (steps copying (talk p) k (start p.core input turns) no_copies).control.halt ≢ Some NotOpened
+  closing_from_start k input turns = stays_closing k (start p.core input turns) no_copies (start_fine input turns) nothing_open
 
 -- every run of a ready core touches nothing that overlaps what is open
 pub ready_is_calm : (r : Run) → r.stage ≡ GivesUp → Ready r.core → TouchesCalmly r
@@ -314,3 +320,7 @@ ready_is_calm r e ready k = calm_from_start (setting r) ready.told.signs e ready
 
 pub ready_cores_agree : ReadyCoresAgree
 ready_cores_agree r e ready = meanings_agree r (ready_is_calm r e ready)
+
+-- a `Close` ends only what a `Lend` of its body opened, and a `Slide` only what a `Project` of it opened
+pub ready_cores_close_their_own : (r : Run) → r.stage ≡ GivesUp → Ready r.core → NeverHalts r NotOpened
+ready_cores_close_their_own r e ready k = closing_from_start (setting r) ready.told.signs e ready.shaped ready.told.each k r.input r.turns

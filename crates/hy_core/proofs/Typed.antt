@@ -103,7 +103,7 @@ module _ (types : Table) where
   each_with_nth t zero w (And v vs) h g = (g, h.1)
   each_with_nth t (suc i) w (And v vs) h g = (h.0, each_with_nth t i w vs h.1 g)
 
-  fits_part : (f : Form) (i : ℕ) (v : Val) → Fits f v → Fits (sub f i) (part i v)
+  pub fits_part : (f : Form) (i : ℕ) (v : Val) → Fits f v → Fits (sub f i) (part i v)
   fits_part f i Unset h = tt
   fits_part f i (Number n) h = tt
   fits_part f i (Truth b) h = tt

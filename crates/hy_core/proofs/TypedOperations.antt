@@ -35,7 +35,7 @@ module _ (core : Core) (f : Fun) where
   plain x (Product d vs) is h w = absurd (let e = h.1 in ⊎_elim (λ a. let g : x ≡ Numbers = a in cc) (λ a. let g : x ≡ Flags = a in cc) is)
   plain x (Array vs) is h w = absurd (let e = h.1 in ⊎_elim (λ a. let g : x ≡ Numbers = a in cc) (λ a. let g : x ≡ Flags = a in cc) is)
 
-  has_constant : (x : Form) (t : TyId) (n : ℤ) → x ≡ form core.types t → IsConstant core f x n → (v : Val) × (constant x n ≡ Some v) × Fits core.types x v
+  pub has_constant : (x : Form) (t : TyId) (n : ℤ) → x ≡ form core.types t → IsConstant core f x n → (v : Val) × (constant x n ≡ Some v) × Fits core.types x v
   has_constant Numbers t n e is = (Number n, refl, refl)
   has_constant Flags t n e (inl is) = (Truth false, ap (constant Flags) is, refl)
   has_constant Flags t n e (inr is) = (Truth true, ap (constant Flags) is, refl)

@@ -38,7 +38,7 @@ good_next S (Next c) m h = h
 
 -- FORMS
 
-has_blank : (types : Table) (f : Form) (t u : TyId) (i : ℕ) → f ≡ form types t → part_type f i ≡ Some u → (v : Val) × (blank_of f ≡ Some v) × Fits types f v
+pub has_blank : (types : Table) (f : Form) (t u : TyId) (i : ℕ) → f ≡ form types t → part_type f i ≡ Some u → (v : Val) × (blank_of f ≡ Some v) × Fits types f v
 has_blank types Numbers t u i q e = absurd (cc)
 has_blank types Flags t u i q e = absurd (cc)
 has_blank types (Tuples parts) t u i q e = (Tuple (blanks parts), refl, (parts, refl, fits_blanks types parts))
@@ -46,7 +46,7 @@ has_blank types (Products d parts) t u i q e = (Product d (blanks parts), refl, 
 has_blank types (Arrays a) t u i q e = absurd (cc)
 has_blank types Unknown t u i q e = absurd (cc)
 
-sub_part : (types : Table) (f : Form) (i : ℕ) (u : TyId) → part_type f i ≡ Some u → sub types f i ≡ form types u
+pub sub_part : (types : Table) (f : Form) (i : ℕ) (u : TyId) → part_type f i ≡ Some u → sub types f i ≡ form types u
 sub_part types Numbers i u e = absurd (cc)
 sub_part types Flags i u e = absurd (cc)
 sub_part types (Tuples parts) i u e = ap (form_at types) e

@@ -19,3 +19,4 @@ pub mod Denotes
 pub mod Carried
 pub mod Logs
 pub mod Memories
+pub mod Given

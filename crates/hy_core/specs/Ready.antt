@@ -12,7 +12,7 @@ pub record Ready (core : Core) : Type 0 where
   pub shaped : Shaped core
   pub told : Told GivesUp core
 
--- A core that is told is calm, whatever it is given.
+-- A core that is told is calm, whatever it is given. Of checked cores that is proved (`ReadyCoresAreCalm`).
 abbrev pub ToldIsCalm : Type 0
 ToldIsCalm = (r : Run) → Shaped r.core → Told r.stage r.core → IsCalmRun r
 
@@ -27,3 +27,7 @@ ShapedIsNeverStuck = (r : Run) → Shaped r.core → NeverHalts r Stuck
 -- The two meanings of a ready core are equal.
 abbrev pub ReadyCoresAgree : Type 0
 ReadyCoresAgree = (r : Run) → r.stage ≡ GivesUp → Ready r.core → (report : Report) → (CopiesTo r report → LendsTo r report) × (LendsTo r report → CopiesTo r report)
+
+-- Every run of a ready core is calm.
+abbrev pub ReadyCoresAreCalm : Type 0
+ReadyCoresAreCalm = (r : Run) → r.stage ≡ GivesUp → Ready r.core → IsCalmRun r

@@ -130,7 +130,7 @@ abbrev mutual
   some_blank No = false
   some_blank (And v vs) = is_blank v && all_blank vs
 
-  all_blank : Vals → Bool
+  pub all_blank : Vals → Bool
   all_blank No = true
   all_blank (And v vs) = is_blank v && all_blank vs
 

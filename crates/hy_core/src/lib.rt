@@ -5,6 +5,7 @@
 mod laws;
 mod log;
 mod memory;
+mod operators;
 mod program;
 #[cfg(test)]
 mod tests;
@@ -17,6 +18,9 @@ pub use laws::{
 };
 pub use log::{Key, Spot};
 pub use memory::{Cells, Copies};
+pub use operators::{Given, difference, negative, place_of, product, quotient, remainder, sum};
 pub use program::{Checked, Core, CoreFun, CoreOp, CorePlace, CoreStep, CoreStmt};
-pub use told::{ready_cores_agree, shaped_is_never_stuck};
+pub use told::{
+    ready_cores_agree, ready_cores_are_calm, shaped_is_never_stuck, told_cores_drop_all,
+};
 pub use value::Value;

@@ -1,6 +1,6 @@
 //! Laws of cores that are well formed: what their runs never do. Each is the contract of a function that does nothing.
 
-ghost use Rattle.hy_core.specs.Ready.{ReadyCoresAgree, ShapedIsNeverStuck};
+ghost use Rattle.hy_core.specs.Ready.{ReadyCoresAgree, ReadyCoresAreCalm, ShapedIsNeverStuck, ToldIsDropped};
 
 /// A core of the right shape never gets stuck, whatever it is given. `docs/CORE.md` says what the shape is.
 pub fn shaped_is_never_stuck()
@@ -11,4 +11,16 @@ pub fn shaped_is_never_stuck()
 /// `docs/CORE.md` says what ready is.
 pub fn ready_cores_agree()
     ensures { ReadyCoresAgree }
+{}
+
+/// Where a core is ready, every run of it is calm: it touches nothing that overlaps what is open, reads nothing that is unset,
+/// and closes only what it opened.
+pub fn ready_cores_are_calm()
+    ensures { ReadyCoresAreCalm }
+{}
+
+/// A checked core that is told gives up all that it owns: at each `Leave` nothing of an owned local is set, save what is handed
+/// out, and nothing that the body opened is open; and no statement stores over a set array.
+pub fn told_cores_drop_all()
+    ensures { ToldIsDropped }
 {}
