@@ -292,7 +292,8 @@ abbrev mutual
   depth_use (ForPart bracket es spot) = depth_spot spot + 1
   depth_use (ForElement bracket es spot) = depth_spot spot + 1
   depth_use (ForArgument callee args label spot) = depth_spot spot + 1
-  depth_use (ForCondition from choices word spot) = depth_spot spot
+  -- so each `if` in a condition is a level of its own
+  depth_use (ForCondition from choices word spot) = depth_spot spot + 1
   depth_use (ForChoice from choices word condition spot) = depth_spot spot + 1
   depth_use (ForOtherwise from choices spot) = depth_spot spot + 1
 
@@ -309,7 +310,7 @@ depth_type (ForParam head from label name mode) = depth_head head + 1
 depth_type (ForResult head) = depth_head head
 depth_type (ForField owner members start name) = 1
 
--- how many levels are bracket: parentheses, brackets, braces, `<` of types, and operators before an operand
+-- how many levels are open: parentheses, brackets, braces, `<` of types, operators before an operand, and conditions in an expression
 abbrev pub depth : State → ℕ
 depth (FileReady decls to) = 0
 depth (FileDone decls to) = 0

@@ -1,0 +1,96 @@
+#!/bin/sh
+# Measures the parser: makes a throw-away repository with the parser and a small program that parses a generated source of
+# 1,048,576 bytes, and prints how many bytes a second it parses (without the lexer), and how much memory a byte of the source
+# takes at most beyond its tokens. It stands outside the gate.
+#
+#     sh tests/bench/parser.sh
+set -eu
+here=$(cd "$(dirname "$0")/../.." && pwd)
+work=$(mktemp -d)
+[ -n "${KEEP:-}" ] || trap 'rm -rf "$work"' EXIT
+mkdir -p "$work/crates/bench/src" "$work/crates/bench/specs" "$work/crates/bench/data"
+cp "$here/HANDLES" "$work/"
+for crate in hy_base hy_lexer hy_tree hy_parser; do cp -r "$here/crates/$crate" "$work/crates/"; done
+rm -rf "$work"/crates/*/must-fail
+grep -E '^(hy_base|hy_lexer|hy_tree|hy_parser):' "$here/crates.txt" > "$work/crates.txt"
+echo 'bench: hy_base hy_lexer hy_tree hy_parser anyhow' >> "$work/crates.txt"
+cat > "$work/crates/bench/src/main.rt" <<'END'
+//! Parses what it reads as often as its file `times` says, and prints the time.
+#![tactic(auto)]
+
+use hy_lexer::{lex, spans_are_apart};
+use hy_parser::parse;
+use std::fs;
+use std::io;
+use std::time::Instant;
+
+fn main(rt: HostRuntime) -> io::Result<()> {
+    let source = fs::read(&rt, "source.hylo")?;
+    let times = fs::read(&rt, "times")?.len();
+    let Ok(length) = u32::try_from(source.len()) else {
+        return Ok(());
+    };
+    if length > 1_048_576 {
+        return Ok(());
+    }
+    let Ok(tokens) = lex(rt.alloc(), source.as_slice()) else {
+        return Ok(());
+    };
+    spans_are_apart();
+    let mut right = 0u32;
+    let start = Instant::now(&rt)?;
+    for _ in 0..times {
+        if parse(rt.alloc(), tokens.as_slice(), length).is_ok() {
+            right = right.saturating_add(1);
+        }
+    }
+    let spent = start.elapsed(&rt)?;
+    let count = tokens.len();
+    let micros = spent.as_micros();
+    println!(rt; "{length} {count} {right} {micros}")
+}
+END
+python3 - "$work/crates/bench/data" <<'END'
+import sys
+piece = """type Queue: Deinitializable {
+  var items: Array<Int>
+  var first_index: Int
+  fun push(_ value: sink Int) inout {
+    self.items.append(value)
+    if self.first_index >= 1_000 && value != -1 { self.first_index += 1 } else { self.first_index = 0 }
+  }
+  subscript at(_ index: Int): Int {
+    let { yield self.items[index] }
+    inout { yield &self.items[index] }
+  }
+}
+public fun size(_ queue: Queue, _ width: Int) -> Int {
+  while queue.first_index < 42 { return queue.items.count * width % 7 }
+  return if width > 0 { width } else { (1 + 2) * 3 }
+}
+"""
+text = piece * (1048576 // len(piece))
+text += " " * (1048576 - len(text))
+open(sys.argv[1] + "/source.hylo", "w").write(text)
+open(sys.argv[1] + "/times", "w").write("x" * 20)
+END
+cd "$work/crates/bench"
+# The first run only builds the program: the source lies in another folder.
+rt run > "$work/log" 2>&1 || true
+cd data
+../out/bench > "$work/out" || { cat "$work/log"; exit 1; }
+python3 - "$work/out" <<'END'
+import resource, subprocess, sys
+length, count, right, micros = map(int, open(sys.argv[1]).read().split())
+if right != 20:
+    sys.exit("the source was refused")
+print(f"{20 * length / micros:.1f} MB/s ({length} bytes, {count} tokens, {right} times, {micros} microseconds)")
+
+def peak(times):
+    open("times", "w").write("x" * times)
+    run = subprocess.Popen(["../out/bench"], stdout=subprocess.DEVNULL)
+    return __import__("os").wait4(run.pid, 0)[2].ru_maxrss * 1024
+
+without, once = peak(0), peak(1)
+print(f"{(once - without) / length:.0f} bytes of tree a byte of source ({without} and {once} bytes at most without and with a parse)")
+END
