@@ -1,18 +1,13 @@
 -- The copying meaning of a program: what it writes and how it ends, as if every value were copied.
-use Rattle.std.specs.Prelude.{ℕ, zero, suc, ◌-◌, Bool, true, false, List, [], ◌∷◌, ◌++◌, length, ℤ, pos, ◌+ℤ◌, if◌then◌else◌, bytes_eq}
+use Rattle.std.specs.Prelude.{ℕ, zero, suc, ◌-◌, Bool, true, false, List, [], ◌∷◌, ◌++◌, length, Option, Some, None, ℤ, pos, ◌+ℤ◌, if◌then◌else◌, bytes_eq}
 use Rattle.std.specs.Fmt.{signed_decimal}
 pub use Rattle.hy_base.specs.Numbers.{fits}
 use Rattle.hy_base.specs.declared.position.Span.{Span}
 use Rattle.hy_base.specs.declared.run.End.{End}
 use Rattle.hy_base.specs.declared.run.End.TheVariants as end
 use Rattle.hy_base.specs.declared.run.TrapKind.TheVariants as trap
-use Rattle.hy_parser.specs.declared.tree.Item.{Item}
-use Rattle.hy_parser.specs.declared.tree.Operand.{Operand}
-use Rattle.hy_parser.specs.declared.tree.Operand.TheVariants as operand
-use Rattle.hy_parser.specs.declared.tree.Program.{Program}
-use Rattle.hy_parser.specs.declared.tree.Stmt.{Stmt}
-use Rattle.hy_parser.specs.declared.tree.Stmt.TheVariants as stmt
-use Rattle.hy_parser.specs.declared.tree.Sum.{Sum}
+use Rattle.hy_tree.specs.Tree as T
+use Rattle.hy_meaning.specs.Forms.{first_of, links_of, printed, target_of, main_of}
 
 -- VALUES AND VARIABLES
 
@@ -28,9 +23,9 @@ abbrev pub Env : Type 0
 Env = List Entry
 
 -- the value of a variable; no program asks for a name that it has not declared
-abbrev pub at : Env → List ℕ → Value
-at [] name = Int (pos 0)
-at (e ∷ env) name = if bytes_eq e.name name then e.value else at env name
+abbrev pub look : Env → List ℕ → Value
+look [] name = Int (pos 0)
+look (e ∷ env) name = if bytes_eq e.name name then e.value else look env name
 
 -- another value for a variable; all else stays
 abbrev pub put : Env → List ℕ → Value → Env
@@ -72,24 +67,25 @@ and_then (Over e s) f = Over e s
 abbrev pub number_in : Value → ℤ
 number_in (Int n) = n
 
-abbrev pub operand_value : Env → Operand → ℤ
-operand_value env (operand.Name name) = number_in (at env name)
-operand_value env (operand.Number n) = n
+-- A program that is accepted has no other operands.
+abbrev pub operand_value : Env → T.Expr → ℤ
+operand_value env (T.Named name at) = number_in (look env name.text)
+operand_value env (T.Number n at) = n
+operand_value env e = pos 0
 
 -- A result that does not fit traps at the operator's expression.
 abbrev pub checked : Bool → ℤ → Span → Env → State → (ℤ → Outcome) → Outcome
 checked true n span env s go = go n
 checked false n span env s go = Stops (end.Trap trap.Overflow span) s
 
--- The items are added to what is there, from left to right. Each operator's expression begins where the sum begins.
-abbrev pub add_all : ℕ → ℤ → List Item → Env → State → Outcome
-add_all from n [] env s = Gives (Int n) env s
-add_all from n (i ∷ items) env s =
-    checked (fits (n +ℤ operand_value env i.operand)) (n +ℤ operand_value env i.operand) (record { from = from; to = i.span.to }) env s
-    (λ n. add_all from n items env s)
+-- The right operands are added to what is there, from left to right.
+abbrev pub add_all : ℤ → T.Links → Env → State → Outcome
+add_all n T.NoLink env s = Gives (Int n) env s
+add_all n (T.ThenLink operator token operand at links) env s =
+    checked (fits (n +ℤ operand_value env operand)) (n +ℤ operand_value env operand) at.span env s (λ n. add_all n links env s)
 
-abbrev pub eval : Sum → Env → State → Outcome
-eval sum env s = add_all sum.first.span.from (operand_value env sum.first.operand) sum.more env s
+abbrev pub eval : T.Expr → Env → State → Outcome
+eval value env s = add_all (operand_value env (first_of value)) (links_of value) env s
 
 -- STATEMENTS
 
@@ -100,14 +96,20 @@ line_of (Int n) = signed_decimal n ++ 10 ∷ []
 abbrev pub write : State → List ℕ → State
 write s piece = record s { output = s.output ++ piece }
 
-abbrev pub exec : Stmt → Env → State → Flow
-exec (stmt.Var name sum) env s = then_do (eval sum env s) (λ v env s. Next (declare env name v) s)
-exec (stmt.Assign name sum) env s = then_do (eval sum env s) (λ v env s. Next (put env name v) s)
-exec (stmt.Print sum) env s = then_do (eval sum env s) (λ v env s. Next env (write s (line_of v)))
+abbrev pub print_value : Option T.Expr → Env → State → Flow
+print_value None env s = Next env s
+print_value (Some value) env s = then_do (eval value env s) (λ v env s. Next env (write s (line_of v)))
 
-abbrev pub block : List Stmt → Env → State → Flow
-block [] env s = Next env s
-block (m ∷ stmts) env s = and_then (exec m env s) (block stmts)
+-- A program that is accepted has no other statements.
+abbrev pub exec : T.Stmt → Env → State → Flow
+exec (T.Binding introducer name written value at) env s = then_do (eval value env s) (λ v env s. Next (declare env name.text v) s)
+exec (T.Assign target value at) env s = then_do (eval value env s) (λ v env s. Next (put env (target_of target) v) s)
+exec (T.Evaluate e at) env s = print_value (printed e) env s
+exec stmt env s = Next env s
+
+abbrev pub block : T.Stmts → Env → State → Flow
+block T.NoStmt env s = Next env s
+block (T.ThenStmt stmt stmts) env s = and_then (exec stmt env s) (block stmts)
 
 -- PROGRAMS
 
@@ -136,5 +138,5 @@ start input n = record { input = input; output = []; turns = n; opened = 0 }
 
 -- A run of `main` on this input with at most n turns. Where `cut` holds the input is a beginning only; no form that is
 -- built reads, so nothing depends on it yet.
-abbrev pub mean : Program → (input : List ℕ) → (cut : Bool) → (n : ℕ) → Report
-mean tree input cut n = reported input n (turn n (start input n) (block tree.stmts []))
+abbrev pub mean : T.Program → (input : List ℕ) → (cut : Bool) → (n : ℕ) → Report
+mean tree input cut n = reported input n (turn n (start input n) (block (main_of tree.decls) []))

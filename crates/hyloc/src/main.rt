@@ -2,18 +2,12 @@
 #![tactic(auto)]
 
 mod host;
-mod lower;
-mod message;
-#[cfg(test)]
-mod tests;
-mod top;
-mod words;
 
 use host::{HostFiles, HostInput, HostOutput};
+use hy_driver::hyloc;
 use std::alloc::{AllocError, Global};
 use std::process::ExitCode;
 use std::{env, io, rt};
-use top::hyloc;
 
 // The words behind the program's name.
 fn command_words<R: rt::Env + AllocGlobal>(rt: &R) -> io::Result<Vec<String>> {

@@ -1,0 +1,56 @@
+-- What is answered, with its message or without, on each way that a call may go.
+use Rattle.std.proofs.Common.{◌≡◌, ℕ, List, Some, Result, Ok, Err, String, Global, string_bytes, MatchResult, IfOk, inl, inr, ◌∙◌, ap, sym, subst}
+use Rattle.hy_base.specs.declared.run.Counts.{Counts}
+use Rattle.hy_base.specs.declared.run.Ending.{Ending}
+use Rattle.hy_base.specs.declared.run.RunFault.{RunFault}
+use Rattle.hy_base.specs.declared.refusal.NoMemory.{NoMemory}
+use Rattle.hy_base.specs.First.{Refusal, IsFirst}
+use Rattle.hy_front.specs.Phases.{Breaks}
+use Rattle.hy_machine.specs.Bytes.{bytes_of}
+use Rattle.hy_driver.specs.declared.top.Made.{Made}
+use Rattle.hy_driver.specs.Call.{Filed, Streams}
+use Rattle.hy_driver.specs.Course as w
+use Rattle.hy_driver.specs.Course.{Answer, answer, bare, ended_answer, IsEither, IsIdle, IsRun, IsCut, Executes, Follows, Goes, cause_status, cause_message}
+use Rattle.hy_driver.specs.Due.{IsMadeOf}
+use Rattle.hy_driver.specs.Texts.{out_of_memory, refusal_message}
+
+-- a message that is this text, or want of memory
+pub either_way : (message : Result (String Global) NoMemory) (it : Answer) (status : ℕ) (text object : List ℕ) (counts : Counts)
+    → MatchResult message (λ m. it ≡ answer status (string_bytes m) object counts) (λ _. it ≡ answer 8 out_of_memory object counts)
+    → IfOk message (λ m. string_bytes m ≡ text)
+    → IsEither it (answer status text object counts) (answer 8 out_of_memory object counts)
+either_way (Ok m) it status text object counts is said = inl (is ∙ ap (λ t. answer status t object counts) said)
+either_way (Err e) it status text object counts is said = inr is
+
+module _ (file bytes : List ℕ) (before after : Streams) where
+  ended_run : (object : _) (ending : Ending) (it : Answer) → IsRun object before after ending
+      → IsEither it (ended_answer file bytes (bytes_of object) ending) (answer 8 out_of_memory (bytes_of object) ending.counts) → Executes file bytes object before after it
+  ended_run object ending it run (inl is) = subst (λ it. Executes file bytes object before after it) (sym is) (w.ended run)
+  ended_run object ending it run (inr is) = subst (λ it. Executes file bytes object before after it) (sym is) (w.message_wanted run)
+
+  -- the object that was made has run to its end
+  pub follows_end : (made : Made) (ending : Ending) (it : Answer) → IsMadeOf bytes made → IsRun made.object before after ending
+      → IsEither it (ended_answer file bytes made.bytes.items ending) (answer 8 out_of_memory made.bytes.items ending.counts) → Follows file bytes before after it
+  follows_end made ending it made_of run is =
+      w.executed made_of.1 (ended_run made.object ending it run (subst (λ object. IsEither it (ended_answer file bytes object ending) (answer 8 out_of_memory object ending.counts)) made_of.2 is))
+
+  -- its run was cut off
+  pub follows_cut : (made : Made) (fault : RunFault) (it : Answer) → IsMadeOf bytes made → IsCut made.object before after fault
+      → it ≡ answer (cause_status fault.cause) (cause_message fault.cause) made.bytes.items fault.counts → Follows file bytes before after it
+  follows_cut made fault it made_of cut is =
+      w.executed made_of.1 (subst (λ it. Executes file bytes made.object before after it)
+      (sym (is ∙ ap (λ object. answer (cause_status fault.cause) (cause_message fault.cause) object fault.counts) made_of.2)) (w.cut_off cut))
+
+  -- the source was refused
+  pub follows_refusal : (f : Refusal) (it : Answer) → IsFirst (Breaks bytes) (Some f) → IsIdle before after
+      → IsEither it (bare 1 (refusal_message file bytes f)) (bare 8 out_of_memory) → Follows file bytes before after it
+  follows_refusal f it first idle (inl is) = subst (λ it. Follows file bytes before after it) (sym is) (w.refused first idle)
+  follows_refusal f it first idle (inr is) = subst (λ it. Follows file bytes before after it) (sym is) (w.memory_wanted idle)
+
+  pub follows_want : (it : Answer) → IsIdle before after → it ≡ bare 8 out_of_memory → Follows file bytes before after it
+  follows_want it idle is = subst (λ it. Follows file bytes before after it) (sym is) (w.memory_wanted idle)
+
+-- another name for what is answered
+pub goes_as : {words : List (List ℕ)} {may_fail : List ℕ → Type 0} {files_before files_after : Filed} {before after : Streams} {it one : Answer}
+    → it ≡ one → Goes words may_fail files_before files_after before after one → Goes words may_fail files_before files_after before after it
+goes_as {words} {may_fail} {files_before} {files_after} {before} {after} is way = subst (λ it. Goes words may_fail files_before files_after before after it) (sym is) way

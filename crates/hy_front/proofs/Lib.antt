@@ -1,0 +1,5 @@
+mod Firsts
+pub mod Keys
+mod Lists
+pub mod Phased
+mod Walks

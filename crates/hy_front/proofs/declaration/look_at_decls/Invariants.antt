@@ -1,0 +1,8 @@
+use Rattle.std.proofs.Common.{map, false}
+use Rattle.hy_tree.specs.Denotes.{decl_of}
+use Rattle.hy_front.specs.Unbuilt.{in_decls}
+use Rattle.hy_front.proofs.Walks.{HasWalked}
+use Rattle.hy_front.proofs.declaration.look_at_decls.Given as goal
+
+abbrev pub invariant-loop-decl : goal.invariant-loop-decl
+invariant-loop-decl l = HasWalked (λ before xs. in_decls before (map decl_of xs)) false l.decls l.fn.first l.decl-index l.before l.first

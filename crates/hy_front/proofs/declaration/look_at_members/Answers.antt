@@ -1,0 +1,11 @@
+use Rattle.hy_tree.specs.Denotes.{member_kind_of}
+use Rattle.hy_front.specs.Unbuilt.{in_member_kind}
+use Rattle.hy_front.proofs.Lists.{members_walk}
+use Rattle.hy_front.proofs.Walks.{walked_more, then_met}
+use Rattle.hy_front.proofs.declaration.look_at_members.Goals as goal
+
+pub loop-member-preserved : goal.loop-member-preserved
+loop-member-preserved c =
+    let one = c.member-item.result in
+    walked_more members_walk tt c.args.members.now c.args.first c.loop-member.member-index tt c.loop-member.first c.in_ok-first.first one c.member-item.is c.loop-member-test.true c.loop-member.invariant
+    (then_met one.span (in_member_kind (member_kind_of one.kind)) c.loop-member.first c.meet.result c.in_ok-first.first c.meet.ensures c.in_ok-first.ensures)

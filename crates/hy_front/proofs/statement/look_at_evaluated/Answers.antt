@@ -1,0 +1,16 @@
+use Rattle.std.proofs.Common.{◌==◌, not, ap, ◌∙◌}
+use Rattle.hy_tree.specs.Denotes.{expr_of}
+use Rattle.hy_front.specs.Noted.{after}
+use Rattle.hy_front.specs.Unbuilt.{when, is_discarded, in_expr, in_printed}
+use Rattle.hy_front.proofs.Lists.{span_is}
+use Rattle.hy_front.proofs.Walks.{then}
+use Rattle.hy_front.proofs.statement.look_at_evaluated.Goals as goal
+
+pub returns-in-Some : goal.returns-in-Some
+returns-in-Some c =
+    let scope = c.args.scope.now in
+    let e = expr_of c.args.e.now in
+    let value = expr_of c.in-Some.value.now in
+    then (when (is_discarded e c.args.span) c.args.span) (in_expr scope value) c.args.first c.meet_when-first.result c.look_at_expr.result
+    (c.meet_when-first.ensures ∙ (λ i. after (when (not ((span_is c.args.e.now i).from == c.args.span.from)) c.args.span) c.args.first)) c.look_at_expr.ensures
+    ∙ ap (λ printed. after (in_printed scope e c.args.span printed) c.args.first) c.in-Some.ensures

@@ -1,0 +1,5 @@
+pub mod Noted
+pub mod Phases
+pub mod Rows
+pub mod Scopes
+pub mod Unbuilt

@@ -1,0 +1,55 @@
+// All passes, one behind the other.
+ghost use Rattle.std.specs.Prelude.{◌≡◌, List, ℕ};
+ghost use Rattle.hy_base.specs.Answers.{Answers};
+ghost use Rattle.hy_tree.specs.Denotes.{program_of};
+ghost use Rattle.hy_tree.specs.Tree.{Program as Tree};
+ghost use Rattle.hy_front.specs.Phases.{Breaks, BreaksForms, IsTree, HasTree};
+ghost use Rattle.hy_front.specs.Unbuilt.{Breaks as BreaksForm};
+
+use crate::declaration::first_unbuilt;
+use hy_base::{Fault, Rule, Span};
+use hy_lexer::{lex, one_list_of_tokens, spans_are_apart};
+use hy_parser::{one_program, parse};
+use hy_tree::Program;
+use std::alloc::Global;
+
+/// The longest source, in bytes.
+pub const LONGEST: u32 = 1_048_576;
+
+/// Accepts a tree whose forms are all built.
+fn accept(alloc: Global, tree: Program) -> Result<Program, Fault>
+    ensures { Answers (BreaksForm (program_of tree)) (λ accepted. program_of accepted ≡ program_of tree) result }
+{
+    match first_unbuilt(alloc, &tree)? {
+        Some(span) => Err(Fault::Refused(Rule::X1, span)),
+        None => Ok(tree),
+    }
+}
+
+/// The tree of a source, or the first rule that the source breaks, phase by phase, as `docs/REFUSALS.md` has them.
+pub fn front(alloc: Global, bytes: &[u8]) -> Result<Program, Fault>
+    ensures { Answers (Breaks bytes.now) (λ tree. IsTree bytes.now (program_of tree)) result }
+{
+    // The laws that its clause stands on; these calls do nothing.
+    one_list_of_tokens();
+    one_program();
+    spans_are_apart();
+    if bytes.len() > LONGEST as usize {
+        let end = Span {
+            from: LONGEST,
+            to: LONGEST,
+        };
+        return Err(Fault::Refused(Rule::Z1, end));
+    }
+    let tokens = lex(alloc, bytes)?;
+    let tree = parse(alloc, &tokens, bytes.len() as u32)?;
+    accept(alloc, tree)
+}
+
+/// A source has at most one tree.
+pub fn one_tree()
+    ensures { (bytes : List ℕ) (one other : Tree) → IsTree bytes one → IsTree bytes other → one ≡ other }
+{
+    one_list_of_tokens();
+    one_program();
+}

@@ -1,0 +1,20 @@
+//! All passes up to the tree, one behind the other: a source is accepted, or refused with the first rule that it breaks.
+//! `docs/REFUSALS.md` has the rules.
+#![tactic(auto)]
+
+mod declaration;
+mod expression;
+mod forms;
+mod fronted;
+mod laws;
+mod least;
+mod scope;
+mod statement;
+#[cfg(test)]
+mod tests;
+mod written;
+
+pub use forms::printed;
+pub use fronted::{LONGEST, front, one_tree};
+pub use laws::rows;
+pub use scope::Scope;

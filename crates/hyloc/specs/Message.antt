@@ -1,9 +1,0 @@
--- The bytes of a message.
-use Rattle.std.specs.Prelude.{ℕ, List, [], string_bytes}
-use Rattle.hyloc.specs.declared.message.Message.{Message}
-use Rattle.hyloc.specs.declared.message.Message.TheVariants.{Silent, Fixed, Made}
-
-abbrev pub bytes_of_message : Message → List ℕ
-bytes_of_message Silent = []
-bytes_of_message (Fixed text) = text.now
-bytes_of_message (Made text) = string_bytes text
