@@ -1,12 +1,3 @@
-mod Among
-mod Goes
-mod Keys
-mod Lexing
-mod Named
-mod Parsing
-mod Refusals
-mod Statements
-mod Trees
 pub mod Runs
 pub mod Leaves
 pub mod Completes

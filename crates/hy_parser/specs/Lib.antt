@@ -1,12 +1,3 @@
-pub mod Cursors
-pub mod FirstGrammar
-pub mod Lexing
-pub mod Names
-pub mod FirstReads
-pub mod Scopes
-pub mod Source
-pub mod FirstTokens
-pub mod Words
 pub mod Kinds
 pub mod Marks
 pub mod Wanted
