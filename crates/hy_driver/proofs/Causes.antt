@@ -5,7 +5,7 @@ use Rattle.hy_base.specs.declared.run.End.TheVariants as end
 use Rattle.hy_base.specs.declared.run.RunCause.{RunCause}
 use Rattle.hy_base.specs.declared.run.RunCause.TheVariants as cause
 use Rattle.hy_base.specs.Outside.{StillTells}
-use Rattle.hy_machine.specs.declared.object.Object.{Object}
+use Rattle.hy_object.specs.declared.object.Object.{Object}
 use Rattle.hy_machine.specs.Runs.{Appends, CountsCause}
 use Rattle.hy_driver.specs.declared.top.Report.{Report}
 use Rattle.hy_driver.specs.Call.{Call, Filed, Streams, Messages, call_of}

@@ -5,8 +5,8 @@ use Rattle.hy_base.specs.First.{Refusal, IsFirst}
 use Rattle.hy_tree.specs.Tree.{Program}
 use Rattle.hy_base.proofs.OneFirst.{one_first}
 use Rattle.hy_front.specs.Phases.{IsTree, Breaks}
-use Rattle.hy_machine.specs.declared.object.Object.{Object}
-use Rattle.hy_machine.specs.Bytes.{bytes_of}
+use Rattle.hy_object.specs.declared.object.Object.{Object}
+use Rattle.hy_object.specs.Bytes.{bytes_of}
 use Rattle.hy_driver.specs.Compiled.{IsCompiled}
 use Rattle.hy_driver.specs.declared.top.Report.{Report}
 use Rattle.hy_driver.specs.Call.{Call, Filed, Streams, Messages, call_of, IsSource, IsQuiet}

@@ -1,6 +1,6 @@
 -- The object of a tree does what the tree means.
-use Rattle.std.proofs.Common.{◌≡◌, ℕ, zero, suc, ◌-◌, Option, Some, None, ◌<◌, Bool, true, false, ℤ, List, [], ◌∷◌, length, refl, sym, ap, ◌∙◌, subst, arith}
-use Rattle.std.specs.Prelude.{All, ◌+ℤ◌, count_by}
+use Rattle.std.proofs.Common.{◌≡◌, ℕ, zero, suc, ◌-◌, Option, Some, None, ◌<◌, Bool, true, false, ℤ, List, [], length, refl, sym, ap, ◌∙◌, subst, arith}
+use Rattle.std.specs.Prelude.{◌+ℤ◌, count_by}
 use Rattle.hy_base.specs.declared.position.Span.{Span}
 use Rattle.hy_base.specs.declared.run.End.{End}
 use Rattle.hy_base.specs.declared.run.End.TheVariants as end
@@ -9,13 +9,17 @@ use Rattle.hy_tree.specs.Tree.{Program}
 use Rattle.hy_meaning.specs.Forms.{first_of, links_of, printed, target_of, main_of}
 use Rattle.hy_meaning.specs.Meaning as M
 use Rattle.hy_meaning.specs.Meaning.{Env, Value, Outcome, Gives, Stops, Flow, Next, Over, then_do, and_then, fits, checked, operand_value, add_all, eval, declare, put, write, print_value, exec, block, report, reported, start, mean}
-use Rattle.hy_machine.specs.Machine.{Ended, Stuck, State, Run, Runs, after, seen, no_counts, frees, IsSafe, IsBalanced}
-use Rattle.hy_machine.specs.Grammar.{IsCount, IsSpan}
-use Rattle.hy_machine.proofs.OneEnd.{one_run}
+use Rattle.hy_object.specs.Grammar.{IsInGrammar}
+use Rattle.hy_object.specs.Runs.{Run, Runs, after, seen, frees, IsSafe, IsBalanced}
+use Rattle.hy_object.specs.States.{State, Ended, Stuck}
+use Rattle.hy_object.specs.Steps.{no_counts}
+use Rattle.hy_object.proofs.OneEnd.{one_run}
+use Rattle.hy_machine.specs.Built.{IsBuilt}
+use Rattle.hy_machine.specs.Machine.{IsSeen}
+use Rattle.hy_machine.proofs.Simulates.{runs}
 use Rattle.hy_driver.specs.Compiled.{Agrees, IsCompiled}
-use Rattle.hy_driver.specs.Lower.{block_spans, main_code, lowered}
+use Rattle.hy_driver.specs.Lower.{lowered}
 use Rattle.hy_driver.proofs.Leads.{done_run, run_of, first_state, main_runs}
-use Rattle.hy_driver.proofs.Grammar.{in_grammar}
 use Rattle.hy_driver.proofs.Known.{IsNamed}
 
 -- WHAT A RUN LEAVES ALONE
@@ -82,9 +86,9 @@ abbrev run_in : Program → List ℕ → ℕ → Run
 run_in tree input zero = spent_run input
 run_in tree input (suc left) = run_of input (block (main_of tree.decls) [] (first_state input left))
 
-runs_in : (tree : Program) → IsNamed [] (main_of tree.decls) → (input : List ℕ) (cut : Bool) (n : ℕ) → Runs (lowered tree) input cut n (run_in tree input n)
-runs_in tree named input cut zero = (zero, refl)
-runs_in tree named input cut (suc left) = main_runs tree named input cut left
+seen_in : (tree : Program) → IsNamed [] (main_of tree.decls) → (input : List ℕ) (n : ℕ) → IsSeen (lowered tree) input n (run_in tree input n)
+seen_in tree named input zero = (zero, refl)
+seen_in tree named input (suc left) = main_runs tree named input left
 
 agrees_flow : (input : List ℕ) (left : ℕ) (q : Flow) → Plain (first_state input left) q → Agrees (run_of input q) (reported input (suc left) q)
 agrees_flow input left (Next env t) h =
@@ -107,13 +111,14 @@ ended : (tree : Program) (input : List ℕ) (n : ℕ) → (e : End) × ((run_in 
 ended tree input zero = (end.Spent, refl)
 ended tree input (suc left) = ended_flow input (block (main_of tree.decls) [] (first_state input left))
 
-safe : (tree : Program) → IsNamed [] (main_of tree.decls) → IsSafe (lowered tree)
-safe tree named input cut n k at kind h =
+-- it comes to its end in each run, so it is stuck in none
+safe : (tree : Program) → ((input : List ℕ) (cut : Bool) (n : ℕ) → Runs (lowered tree) input cut n (run_in tree input n)) → IsSafe (lowered tree)
+safe tree runs_in input cut n k why at h =
     let s : State = after (lowered tree) input cut n k in
-    let stuck : Run = record { output = s.output; stop = Stuck kind at; taken = length input - length s.input; counts = s.counts; journal = s.journal } in
-    let same : run_in tree input n ≡ stuck = one_run (lowered tree) input cut n (run_in tree input n) stuck (runs_in tree named input cut n) (k, ap (seen input s) h) in
+    let stuck : Run = record { output = s.output; stop = Stuck why at; taken = length input - length s.input; counts = s.counts; journal = s.journal } in
+    let same : run_in tree input n ≡ stuck = one_run (lowered tree) input cut n (run_in tree input n) stuck (runs_in input cut n) (k, ap (seen input s) h) in
     let e = ended tree input n in
-    let both : Ended e.0 ≡ Stuck kind at = sym e.1 ∙ ap (λ run. run.stop) same in
+    let both : Ended e.0 ≡ Stuck why at = sym e.1 ∙ ap (λ run. run.stop) same in
     cc
 
 balanced_flow : (input : List ℕ) (s : M.State) (q : Flow) → Plain s q → (run_of input q).stop ≡ Ended end.Done → IsBalanced (run_of input q)
@@ -128,12 +133,14 @@ balanced_in : (tree : Program) (input : List ℕ) (n : ℕ) → (run_in tree inp
 balanced_in tree input zero done = let spent : Ended end.Spent ≡ Ended end.Done = done in cc
 balanced_in tree input (suc left) done = balanced_flow input (first_state input left) (block (main_of tree.decls) [] (first_state input left)) (plain_block (main_of tree.decls) [] (first_state input left)) done
 
-pub compiles : (tree : Program) → IsNamed [] (main_of tree.decls) → IsCount (length (main_code (main_of tree.decls))) → IsCount (length (block_spans (main_of tree.decls) [])) → All IsSpan (block_spans (main_of tree.decls) []) → IsCompiled tree (lowered tree)
-compiles tree named code_count span_count spans = record {
-  in_grammar = in_grammar tree code_count span_count spans;
-  same = λ input cut n most. (run_in tree input n, runs_in tree named input cut n, agrees tree input cut n);
-  safe = safe tree named;
-  balanced = λ input cut n run is done.
-      let same : run_in tree input n ≡ run = one_run (lowered tree) input cut n (run_in tree input n) run (runs_in tree named input cut n) is in
-      subst IsBalanced same (balanced_in tree input n (ap (λ run. run.stop) same ∙ done));
-}
+pub compiles : (tree : Program) → IsNamed [] (main_of tree.decls) → IsInGrammar (lowered tree) → IsBuilt (lowered tree) → IsCompiled tree (lowered tree)
+compiles tree named grammar built =
+    let runs_in : (input : List ℕ) (cut : Bool) (n : ℕ) → Runs (lowered tree) input cut n (run_in tree input n) = λ input cut n. runs (lowered tree) grammar built input cut n (run_in tree input n) (seen_in tree named input n) in
+    record {
+      in_grammar = grammar;
+      same = λ input cut n most. (run_in tree input n, runs_in input cut n, agrees tree input cut n);
+      safe = safe tree runs_in;
+      balanced = λ input cut n run is done.
+          let same : run_in tree input n ≡ run = one_run (lowered tree) input cut n (run_in tree input n) run (runs_in input cut n) is in
+          subst IsBalanced same (balanced_in tree input n (ap (λ run. run.stop) same ∙ done));
+    }

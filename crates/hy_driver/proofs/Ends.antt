@@ -1,5 +1,5 @@
 -- The statuses that tell how a source and its run end.
-use Rattle.std.proofs.Common.{◌≡◌, ℕ, suc, zero, Bool, false, List, [], ◌∷◌, Option, Some, None, ℤ, ◌+ℤ◌, true, refl, sym, ◌∙◌, ap, arith}
+use Rattle.std.proofs.Common.{◌≡◌, ℕ, suc, zero, Bool, false, List, [], Option, Some, None, ℤ, ◌+ℤ◌, true, refl, sym, ◌∙◌, ap, arith}
 use Rattle.hy_base.specs.declared.run.End.{End}
 use Rattle.hy_base.specs.declared.run.End.TheVariants as end
 use Rattle.hy_base.specs.declared.run.RunCause.{RunCause}

@@ -15,15 +15,18 @@ use Rattle.hy_meaning.specs.Forms.{first_of, links_of, printed, target_of, main_
 use Rattle.hy_front.specs.Unbuilt.{Scope, is_known, with_name}
 use Rattle.hy_meaning.specs.Meaning as M
 use Rattle.hy_meaning.specs.Meaning.{Env, Value, Int, look, put, declare, number_in, operand_value, Outcome, Gives, Stops, Flow, Next, Over, then_do, and_then, checked, add_all, eval, print_value, exec, block, write}
-use Rattle.hy_machine.specs.declared.object.Object.{Object}
-use Rattle.hy_machine.specs.declared.object.Instr.{Instr}
-use Rattle.hy_machine.specs.declared.object.Instr.TheVariants as instr
-use Rattle.hy_machine.specs.declared.object.Shown.TheVariants as shown
+use Rattle.hy_object.specs.declared.object.Object.{Object}
+use Rattle.hy_object.specs.declared.instr.Instr.{Instr}
+use Rattle.hy_object.specs.declared.instr.Instr.TheVariants as instr
+use Rattle.hy_object.specs.declared.instr.Shown.TheVariants as shown
 use Rattle.hy_machine.specs.declared.frame.Cell.{Cell}
 use Rattle.hy_machine.specs.declared.frame.Cell.TheVariants.{Unset, Word}
-use Rattle.hy_machine.specs.declared.frame.Kind.{Kind}
-use Rattle.hy_machine.specs.declared.frame.Kind.TheVariants.{UnsetCell, OutOfRange}
-use Rattle.hy_machine.specs.Machine.{Ended, Allocated, Freed, State, Run, check, reach, all_set, with_window, goes_on, fits, span_at, add, overlap, does, code, fetched, step, steps, seen, Runs}
+use Rattle.hy_object.specs.declared.stuck.Kind.{Kind}
+use Rattle.hy_object.specs.declared.stuck.Kind.TheVariants as kind
+use Rattle.hy_object.specs.Checks.{span_of}
+use Rattle.hy_object.specs.Runs.{Run}
+use Rattle.hy_object.specs.States.{Ended, Allocated, Freed}
+use Rattle.hy_machine.specs.Machine.{State, check, reach, all_set, with_window, goes_on, fits, add, overlap, does, code, fetched, step, steps, seen, IsSeen}
 use Rattle.hy_driver.specs.Lower.{place_of, variable, own, load, more_code, sum_code, store, print_code, stmt_code, spans_behind, printed_links, links_in, declares, block_code, more_spans, stmt_spans, block_spans, declared, lowered}
 use Rattle.hy_driver.proofs.Frames.{names, cells, names_put, names_declare, known, assigned, length_scope, added, length_cells, window_one, put_one}
 use Rattle.hy_driver.proofs.Known.{Knows, KnowsAll, KnowsSum, KnowsPrinted, IsNamedStmt, IsNamed}
@@ -105,9 +108,9 @@ module _ (object : Object) (input : List ℕ) (left : ℕ) (r : Run) where
   copy_first a t xs place p output n is h =
       let s : State = here (a ∷ t ∷ xs) place output in
       let lt : p < length xs = slice_get_within xs p (Word n) is in
-      let go : List Cell → State = λ w. check s UnsetCell (all_set w) (goes_on s (with_window (a ∷ t ∷ xs) 0 w)) in
-      passes s OutOfRange (nat_le 1 (suc (suc (length xs)))) (reach s (own (variable p)) 1 (go (take 1 (drop p xs)))) (le-leb 1 (suc (suc (length xs))) (omega arith))
-      (passes s OutOfRange (nat_le (suc (suc p) + 1) (suc (suc (length xs)))) (go (take 1 (drop p xs))) (le-leb (suc (suc p) + 1) (suc (suc (length xs))) (omega arith))
+      let go : List Cell → State = λ w. check s kind.Unset (all_set w) (goes_on s (with_window (a ∷ t ∷ xs) 0 w)) in
+      passes s kind.Range (nat_le 1 (suc (suc (length xs)))) (reach s (own (variable p)) 1 (go (take 1 (drop p xs)))) (le-leb 1 (suc (suc (length xs))) (omega arith))
+      (passes s kind.Range (nat_le (suc (suc p) + 1) (suc (suc (length xs)))) (go (take 1 (drop p xs))) (le-leb (suc (suc p) + 1) (suc (suc (length xs))) (omega arith))
       (subst (λ w. Ends (go w)) (sym (window_one xs p (Word n) is)) h))
 
   copy_second : (a t : Cell) (xs : List Cell) (place p : ℕ) (output : List ℕ) (n : ℤ) → slice_get xs p ≡ Some (Word n) → Ends (here (a ∷ Word n ∷ xs) (place + 1) output) →
@@ -115,9 +118,9 @@ module _ (object : Object) (input : List ℕ) (left : ℕ) (r : Run) where
   copy_second a t xs place p output n is h =
       let s : State = here (a ∷ t ∷ xs) place output in
       let lt : p < length xs = slice_get_within xs p (Word n) is in
-      let go : List Cell → State = λ w. check s UnsetCell (all_set w) (goes_on s (with_window (a ∷ t ∷ xs) 1 w)) in
-      passes s OutOfRange (nat_le 2 (suc (suc (length xs)))) (reach s (own (variable p)) 1 (go (take 1 (drop p xs)))) (le-leb 2 (suc (suc (length xs))) (omega arith))
-      (passes s OutOfRange (nat_le (suc (suc p) + 1) (suc (suc (length xs)))) (go (take 1 (drop p xs))) (le-leb (suc (suc p) + 1) (suc (suc (length xs))) (omega arith))
+      let go : List Cell → State = λ w. check s kind.Unset (all_set w) (goes_on s (with_window (a ∷ t ∷ xs) 1 w)) in
+      passes s kind.Range (nat_le 2 (suc (suc (length xs)))) (reach s (own (variable p)) 1 (go (take 1 (drop p xs)))) (le-leb 2 (suc (suc (length xs))) (omega arith))
+      (passes s kind.Range (nat_le (suc (suc p) + 1) (suc (suc (length xs)))) (go (take 1 (drop p xs))) (le-leb (suc (suc p) + 1) (suc (suc (length xs))) (omega arith))
       (subst (λ w. Ends (go w)) (sym (window_one xs p (Word n) is)) h))
 
   -- the accumulator goes to a variable
@@ -127,9 +130,9 @@ module _ (object : Object) (input : List ℕ) (left : ℕ) (r : Run) where
       let s : State = here (Word n ∷ t ∷ xs) place output in
       let go : State = goes_on s (with_window (Unset ∷ t ∷ xs) (variable p) (Word n ∷ [])) in
       let apart : (if overlap (variable p) 0 1 then false else true) ≡ true = ap (λ b. if b && nat_lt 0 (suc (suc p) + 1) then false else true) (le-ltb (suc (suc p)) 1 (omega arith)) in
-      passes s OutOfRange (nat_le (suc (suc p) + 1) (suc (suc (length xs)))) (reach s (own 0) 1 (check s OutOfRange (if overlap (variable p) 0 1 then false else true) go)) (le-leb (suc (suc p) + 1) (suc (suc (length xs))) (omega arith))
-      (passes s OutOfRange (nat_le 1 (suc (suc (length xs)))) (check s OutOfRange (if overlap (variable p) 0 1 then false else true) go) (le-leb 1 (suc (suc (length xs))) (omega arith))
-      (passes s OutOfRange (if overlap (variable p) 0 1 then false else true) go apart
+      passes s kind.Range (nat_le (suc (suc p) + 1) (suc (suc (length xs)))) (reach s (own 0) 1 (check s kind.Range (if overlap (variable p) 0 1 then false else true) go)) (le-leb (suc (suc p) + 1) (suc (suc (length xs))) (omega arith))
+      (passes s kind.Range (nat_le 1 (suc (suc (length xs)))) (check s kind.Range (if overlap (variable p) 0 1 then false else true) go) (le-leb 1 (suc (suc (length xs))) (omega arith))
+      (passes s kind.Range (if overlap (variable p) 0 1 then false else true) go apart
       (subst (λ frame. Ends (goes_on s frame)) (sym (put_one Unset t xs p (Word n) lt)) h)))
 
   -- What an outcome asks of the run: that what follows leads to the run, or that the run is this end.
@@ -191,7 +194,7 @@ module _ (object : Object) (input : List ℕ) (left : ℕ) (r : Run) where
         runs (Word n ∷ t ∷ cells env k) place s.output (load scope 1 operand) (found (code object) place (load scope 1 operand) (instr.Add 0 0 1 span ∷ more_code scope (suc span) links rest) is)
         (load_second operand knows.0 (Word n) t place s.output
         (runs (Word n ∷ Word m ∷ cells env k) (place + 1) s.output (instr.Add 0 0 1 span) (found (code object) (place + 1) (instr.Add 0 0 1 span) (more_code scope (suc span) links rest) behind_load)
-        (subst (λ o. Ends (add object (here (Word n ∷ Word m ∷ cells env k) (place + 1) s.output) 0 (span_at o) (n +ℤ m))) (sym (found object.spans span at.span (more_spans links rest_spans) spans))
+        (subst (λ o. Ends (add (here (Word n ∷ Word m ∷ cells env k) (place + 1) s.output) 0 (span_of o) (n +ℤ m))) (sym (found object.spans span at.span (more_spans links rest_spans) spans))
         (add_at (fits (n +ℤ m)) (n +ℤ m) at.span (λ n. add_all n links env s) n m (place + 1) s (Lands rest) h
         (more_ok links (suc span) (n +ℤ m) s rest rest_spans (Word m) (place + 1 + 1) knows.1
         (behind_it (code object) (place + 1) (instr.Add 0 0 1 span) (more_code scope (suc span) links rest) behind_load)
@@ -305,8 +308,8 @@ abbrev pub first_state : List ℕ → ℕ → M.State
 first_state input left = record { input = input; output = []; turns = left; opened = 0 }
 
 -- a run with a turn ends as the meaning of the block says
-pub main_runs : (tree : Program) → IsNamed [] (main_of tree.decls) → (input : List ℕ) (cut : Bool) (left : ℕ) → Runs (lowered tree) input cut (suc left) (run_of input (block (main_of tree.decls) [] (first_state input left)))
-main_runs tree named input cut left =
+pub main_runs : (tree : Program) → IsNamed [] (main_of tree.decls) → (input : List ℕ) (left : ℕ) → IsSeen (lowered tree) input (suc left) (run_of input (block (main_of tree.decls) [] (first_state input left)))
+main_runs tree named input left =
     let q : Flow = block (main_of tree.decls) [] (first_state input left) in
     let r : Run = run_of input q in
     let total : ℕ = length (declared [] (main_of tree.decls)) in

@@ -1,26 +1,27 @@
 -- What is put behind what is there.
 use Rattle.std.proofs.Common.{◌≡◌, ℕ, zero, suc, ◌+◌, ◌<◌, true, false, not, cond, List, [], ◌∷◌, ◌++◌, length, drop, get_or, nat_lt, ◌≤◌, Bool, None, Some, refl, sym, ap, ◌∙◌, subst, arith}
-use Rattle.std.specs.Prelude.{if◌then◌else◌, All, position, bytes_eq}
+use Rattle.std.specs.Prelude.{if◌then◌else◌, position, bytes_eq}
 use Rattle.std.specs.List.{position_or_len}
 use Rattle.std.proofs.lemmas.List.{append-nil, length-append, drop_more}
 use Rattle.std.proofs.lemmas.Option.{cond_some}
 use Rattle.std.proofs.lemmas.Slice.Eq.{bytes_eq-Decides}
 use Rattle.std.proofs.lemmas.Bool.Decides.{same_from_decides}
 use Rattle.hy_base.specs.declared.position.Span.{Span}
-use Rattle.hy_tree.specs.Denotes.{link_of, links_of, stmt_of, stmts_of, expr_of}
+use Rattle.hy_tree.specs.Denotes.{links_of, stmt_of, stmts_of, expr_of}
 use Rattle.hy_tree.specs.Tree as T
 use Rattle.hy_tree.specs.Tree.{Program}
 use Rattle.hy_tree.specs.declared.expression.Link.{Link}
 use Rattle.hy_tree.specs.declared.statement.Stmt.{Stmt}
 use Rattle.hy_meaning.specs.Forms.{main_of}
 use Rattle.hy_front.specs.Unbuilt.{Scope}
-use Rattle.hy_machine.specs.declared.object.Fun.{Fun}
-use Rattle.hy_machine.specs.declared.object.Instr.{Instr}
-use Rattle.hy_machine.specs.declared.object.Instr.TheVariants as instr
-use Rattle.hy_machine.specs.Grammar.{IsCount, IsSpan}
+use Rattle.hy_object.specs.declared.object.Fun.{Fun}
+use Rattle.hy_object.specs.declared.instr.Instr.{Instr}
+use Rattle.hy_object.specs.declared.instr.Instr.TheVariants as instr
+use Rattle.hy_machine.specs.Built.{IsBuilt}
 use Rattle.hy_driver.specs.Lower.{Puts, place_of, load, more_code, spans_behind, links_in, declares, stmt_code, block_code, more_spans, stmt_spans, block_spans, declared, variable, main_code, main_fun, lowered}
 use Rattle.hy_driver.specs.Compiled.{IsCompiled}
 use Rattle.hy_driver.proofs.Compiles.{compiles}
+use Rattle.hy_driver.proofs.Grammar.{AreSizes, in_grammar, is_built}
 use Rattle.hy_driver.proofs.Known.{IsNamed}
 
 -- LOOK-UPS
@@ -116,14 +117,16 @@ stmt_put i xs x scope scope1 last c1 c2 s1 s2 code spans at is first second name
 pub compiles_as_put : (tree : Program) (stmts : T.Stmts) (scope0 scope : Scope) (code0 code1 code : List Instr) (spans0 spans : List Span) (words : ℕ) (funs : List Fun) →
     IsNamed [] (main_of tree.decls) → stmts ≡ main_of tree.decls → scope0 ≡ [] → code0 ≡ [] → spans0 ≡ [] → scope ≡ declared scope0 stmts →
     Puts code0 code1 (block_code scope0 (length spans0) stmts) → Puts code1 code (λ rest. instr.Return 0 ∷ rest) → Puts spans0 spans (block_spans stmts) →
-    words ≡ variable (length scope) → funs ≡ record { accesses = 0; owned = 0; result = 0; words = words; slots = 0; code = code } ∷ [] → IsCount (length code) → IsCount (length spans) → All IsSpan spans →
-    IsCompiled tree (record { spans = spans; funs = funs })
-compiles_as_put tree stmts scope0 scope code0 code1 code spans0 spans words funs named same no_scope no_code no_spans names first last written words_is funs_is code_count span_count ordered =
+    words ≡ variable (length scope) → funs ≡ record { accesses = 0; owned = 0; result = 0; words = words; slots = 0; code = code } ∷ [] → AreSizes code spans words →
+    IsCompiled tree (record { spans = spans; funs = funs }) × IsBuilt (record { spans = spans; funs = funs })
+compiles_as_put tree stmts scope0 scope code0 code1 code spans0 spans words funs named same no_scope no_code no_spans names first last written words_is funs_is sizes =
     let end : List Instr = instr.Return 0 ∷ [] in
     let code_is : code ≡ main_code (main_of tree.decls) = sym (append-nil code) ∙ last [] ∙ first end ∙ (λ i. no_code i ++ block_code (no_scope i) (length (no_spans i)) (same i) end) in
     let spans_is : spans ≡ block_spans (main_of tree.decls) [] = sym (append-nil spans) ∙ written [] ∙ (λ i. no_spans i ++ block_spans (same i) []) in
     let words_are : words ≡ variable (length (declared [] (main_of tree.decls))) = words_is ∙ ap (λ scope. variable (length scope)) names ∙ (λ i. variable (length (declared (no_scope i) (same i)))) in
     let funs_are : funs ≡ main_fun (main_of tree.decls) ∷ [] = funs_is ∙ (λ i. record { accesses = 0; owned = 0; result = 0; words = words_are i; slots = 0; code = code_is i } ∷ []) in
     let object : record { spans = spans; funs = funs } ≡ lowered tree = λ i. record { spans = spans_is i; funs = funs_are i } in
-    subst (IsCompiled tree) (sym object)
-    (compiles tree named (subst (λ code. IsCount (length code)) code_is code_count) (subst (λ spans. IsCount (length spans)) spans_is span_count) (subst (All IsSpan) spans_is ordered))
+    let Sized : ℕ → Type 0 = AreSizes (main_code (main_of tree.decls)) (block_spans (main_of tree.decls) []) in
+    let sized : Sized (main_fun (main_of tree.decls)).words = subst Sized words_are (subst (λ spans. AreSizes (main_code (main_of tree.decls)) spans words) spans_is (subst (λ code. AreSizes code spans words) code_is sizes)) in
+    let built : IsBuilt (lowered tree) = is_built tree in
+    subst (λ o. IsCompiled tree o × IsBuilt o) (sym object) (compiles tree named (in_grammar tree sized) built, built)

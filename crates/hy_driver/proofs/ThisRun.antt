@@ -12,10 +12,11 @@ use Rattle.hy_base.specs.Streams.{Tape}
 use Rattle.hy_tree.specs.Tree.{Program}
 use Rattle.hy_front.specs.Phases.{IsTree}
 use Rattle.hy_meaning.specs.Meaning.{mean}
-use Rattle.hy_machine.specs.declared.object.Object.{Object}
-use Rattle.hy_machine.specs.Bytes.{bytes_of}
-use Rattle.hy_machine.specs.Machine.{Runs, Ended, OneRun}
-use Rattle.hy_machine.specs.Runs.{Appends, IsTaken, IsCutOffAt, CountsCause, WritesBeginnings}
+use Rattle.hy_object.specs.declared.object.Object.{Object}
+use Rattle.hy_object.specs.Bytes.{bytes_of}
+use Rattle.hy_object.specs.Runs.{Runs, OneRun, WritesBeginnings}
+use Rattle.hy_object.specs.States.{Ended}
+use Rattle.hy_machine.specs.Runs.{Appends, IsTaken, IsCutOffAt, CountsCause}
 use Rattle.hy_driver.specs.declared.top.Report as top
 use Rattle.hy_driver.specs.Call.{Call, Filed, Streams, Messages, call_of, IsInput, IsQuiet}
 use Rattle.hy_driver.specs.Compiled.{IsCompiled, Agrees}
@@ -116,7 +117,7 @@ module _ (words : List (List ℕ)) (may_fail : List ℕ → Type 0) (files_befor
   cut_out left tree object fault made input cut =
       let same_input : cut.input ≡ left = input_is cut.input left _ input.old input.new before.input after.input input.told input.still input.left_of_it cut.taken in
       let asked = made.same cut.input false turns (lit≤ tt) in
-      let begins = writes_beginnings object cut.input false turns asked.0 cut.steps cut.front asked.1 cut.going in
+      let begins = writes_beginnings object cut.input false turns asked.0 cut.steps cut.front asked.1 in
       let output : asked.0.output ≡ (mean tree left false turns).output = asked.2.output ∙ ap (λ i. (mean tree i false turns).output) same_input in
       (begins.0, subst (λ o. StillTells before.out after.out (Appends o)) (begins.1 ∙ ap (λ o. take begins.0 o) output) cut.output)
 

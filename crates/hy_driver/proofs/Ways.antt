@@ -6,7 +6,7 @@ use Rattle.hy_base.specs.declared.run.RunFault.{RunFault}
 use Rattle.hy_base.specs.declared.refusal.NoMemory.{NoMemory}
 use Rattle.hy_base.specs.First.{Refusal, IsFirst}
 use Rattle.hy_front.specs.Phases.{Breaks}
-use Rattle.hy_machine.specs.Bytes.{bytes_of}
+use Rattle.hy_object.specs.Bytes.{bytes_of}
 use Rattle.hy_driver.specs.declared.top.Made.{Made}
 use Rattle.hy_driver.specs.Call.{Filed, Streams}
 use Rattle.hy_driver.specs.Course as w

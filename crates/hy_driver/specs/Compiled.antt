@@ -3,9 +3,10 @@ use Rattle.std.specs.Prelude.{◌≡◌, ◌≤◌, ◌^◌, ℕ, Bool, List}
 use Rattle.hy_base.specs.declared.run.End.TheVariants.{Done}
 use Rattle.hy_tree.specs.Tree.{Program}
 use Rattle.hy_meaning.specs.Meaning.{Report, mean}
-use Rattle.hy_machine.specs.declared.object.Object.{Object}
-use Rattle.hy_machine.specs.Grammar.{IsInGrammar}
-use Rattle.hy_machine.specs.Machine.{Run, Runs, Ended, IsSafe, IsBalanced}
+use Rattle.hy_object.specs.declared.object.Object.{Object}
+use Rattle.hy_object.specs.Grammar.{IsInGrammar}
+use Rattle.hy_object.specs.Runs.{Run, Runs, IsSafe, IsBalanced}
+use Rattle.hy_object.specs.States.{Ended}
 
 -- a run of the code is seen as the meaning is: its output, its end, the bytes that it took, its turns and opened places
 pub record Agrees (run : Run) (report : Report) : Type 0 where

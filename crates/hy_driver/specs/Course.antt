@@ -9,9 +9,10 @@ use Rattle.hy_base.specs.Files.{Loads}
 use Rattle.hy_base.specs.First.{Refusal, IsFirst}
 use Rattle.hy_tree.specs.Tree.{Program}
 use Rattle.hy_front.specs.Phases.{longest, IsTree, Breaks}
-use Rattle.hy_machine.specs.declared.object.Object.{Object}
-use Rattle.hy_machine.specs.Bytes.{bytes_of}
-use Rattle.hy_machine.specs.Machine.{no_counts}
+use Rattle.hy_object.specs.declared.object.Object.{Object}
+use Rattle.hy_object.specs.Bytes.{bytes_of}
+use Rattle.hy_object.specs.Steps.{no_counts}
+use Rattle.hy_machine.specs.Built.{IsBuilt}
 use Rattle.hy_machine.specs.Runs.{RanToItsEnd, WasCutOff, CountsCause}
 use Rattle.hy_driver.specs.Call.{Filed, Streams}
 use Rattle.hy_driver.specs.Compiled.{IsCompiled}
@@ -76,10 +77,11 @@ pub data Executes (file bytes : List ℕ) (object : Object) (before after : Stre
   cut_off : {fault : RunFault} → IsCut object before after fault
       → Executes file bytes object before after (answer (cause_status fault.cause) (cause_message fault.cause) (bytes_of object) fault.counts)
 
--- the source has this tree, and the object does what it means
+-- the source has this tree, and the object does what it means, and is one that the machine runs
 pub record IsMade (bytes : List ℕ) (tree : Program) (object : Object) : Type 0 where
   pub tree_of_it : IsTree bytes tree
   pub compiled : IsCompiled tree object
+  pub built : IsBuilt object
 
 -- how the way from a source on may go
 pub data Follows (file bytes : List ℕ) (before after : Streams) : Answer → Type 0 where

@@ -2,7 +2,7 @@
 use Rattle.std.specs.Prelude.{◌≡◌, ◌⊎◌, ℕ, suc, List, ◌++◌, take}
 use Rattle.hy_base.specs.Outside.{StillTells}
 use Rattle.hy_tree.specs.Tree.{Program}
-use Rattle.hy_machine.specs.Bytes.{bytes_of}
+use Rattle.hy_object.specs.Bytes.{bytes_of}
 use Rattle.hy_machine.specs.Runs.{Appends}
 use Rattle.hy_driver.specs.declared.top.Report.{Report}
 use Rattle.hy_driver.specs.declared.top.Due.{Due}

@@ -9,9 +9,10 @@ use Rattle.hy_base.specs.Outside.{StillTells}
 use Rattle.hy_tree.specs.Tree.{Program}
 use Rattle.hy_front.specs.Phases.{IsTree, Breaks}
 use Rattle.hy_meaning.specs.Meaning.{mean}
-use Rattle.hy_machine.specs.declared.object.Object.{Object}
-use Rattle.hy_machine.specs.Bytes.{bytes_of}
-use Rattle.hy_machine.specs.Machine.{Run, Runs, no_counts}
+use Rattle.hy_object.specs.declared.object.Object.{Object}
+use Rattle.hy_object.specs.Bytes.{bytes_of}
+use Rattle.hy_object.specs.Runs.{Run, Runs}
+use Rattle.hy_object.specs.Steps.{no_counts}
 use Rattle.hy_machine.specs.Runs.{Appends, IsTaken}
 use Rattle.hy_driver.specs.Call.{Call, IsSource, IsInput, IsQuiet}
 use Rattle.hy_driver.specs.Compiled.{IsCompiled}

@@ -1,16 +1,18 @@
 -- The object of a tree. The words of its frame are the accumulator, in which a sum is made, the word of the next operand, and
 -- then one word for each variable, in order of declaration.
-use Rattle.std.specs.Prelude.{◌≡◌, ℕ, zero, suc, List, [], ◌∷◌, ◌++◌, length, Option, Some, None, pos, if◌then◌else◌, bytes_eq}
+use Rattle.std.specs.Prelude.{◌≡◌, ℕ, zero, suc, List, [], ◌∷◌, ◌++◌, length, Option, Some, None, pos, if◌then◌else◌, bytes_eq, IsTrue}
 use Rattle.hy_base.specs.declared.position.Span.{Span}
+use Rattle.hy_base.specs.Numbers.{fits}
 use Rattle.hy_tree.specs.Tree as T
 use Rattle.hy_meaning.specs.Forms.{first_of, links_of, printed, target_of, main_of}
 use Rattle.hy_front.specs.Unbuilt.{Scope, with_name}
-use Rattle.hy_machine.specs.declared.object.Object.{Object}
-use Rattle.hy_machine.specs.declared.object.Fun.{Fun}
-use Rattle.hy_machine.specs.declared.object.Place.{Place}
-use Rattle.hy_machine.specs.declared.object.Shown.TheVariants as shown
-use Rattle.hy_machine.specs.declared.object.Instr.{Instr}
-use Rattle.hy_machine.specs.declared.object.Instr.TheVariants as instr
+use Rattle.hy_object.specs.declared.object.Object.{Object}
+use Rattle.hy_object.specs.declared.object.Fun.{Fun}
+use Rattle.hy_object.specs.declared.instr.Place.{Place}
+use Rattle.hy_object.specs.declared.instr.Shown.TheVariants as shown
+use Rattle.hy_object.specs.declared.instr.Instr.{Instr}
+use Rattle.hy_object.specs.declared.instr.Instr.TheVariants as instr
+use Rattle.hy_object.specs.Grammar.{IsCount}
 
 -- how many names stand before this one
 abbrev pub place_of : Scope → List ℕ → ℕ
@@ -107,3 +109,10 @@ lowered tree = record { spans = block_spans (main_of tree.decls) []; funs = main
 -- what was put behind a list, as a function of what comes behind that
 abbrev pub Puts : {A : Type 0} → List A → List A → (List A → List A) → Type 0
 Puts {A} old new front = (rest : List A) → new ++ rest ≡ old ++ front rest
+
+-- the numbers of an instruction that is put are of 32 and 64 bits, as the program's are
+abbrev pub IsSized : Instr → Type 0
+IsSized (instr.Const to value) = IsTrue (fits value)
+IsSized (instr.Copy to from words) = IsCount to.offset × IsCount from.offset
+IsSized (instr.Move to from words) = IsCount to.offset × IsCount from.offset
+IsSized _ = Unit {0}

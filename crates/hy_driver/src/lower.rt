@@ -4,13 +4,14 @@ ghost use Rattle.hy_base.specs.First.{IsFirst};
 ghost use Rattle.hy_tree.specs.Denotes.{program_of, decl_of, decl_kind_of, block_of, stmts_of, stmt_of, expr_of, links_of};
 ghost use Rattle.hy_meaning.specs.Forms.{first_of as first_operand, links_of as operators, target_of, main_of, stmts_of as stmts_of_decl, printed as is_printed, stmts_in};
 ghost use Rattle.hy_front.specs.Unbuilt.{Breaks, with_name};
-ghost use Rattle.hy_machine.specs.Grammar.{IsCount, IsSpan};
+ghost use Rattle.hy_object.specs.Grammar.{IsCount, IsSpan};
+ghost use Rattle.hy_machine.specs.Built.{IsBuilt};
 ghost use Rattle.hy_driver.specs.Compiled.{IsCompiled};
-ghost use Rattle.hy_driver.specs.Lower.{Puts, variable as variable_at, place_of, own as own_place, load as loads, more_spans, sum_code, stmt_code, stmt_spans, block_code, block_spans, declared, declares, more_code, print_code, printed_links, store as store_at};
+ghost use Rattle.hy_driver.specs.Lower.{Puts, variable as variable_at, place_of, own as own_place, load as loads, more_spans, sum_code, stmt_code, stmt_spans, block_code, block_spans, declared, declares, more_code, print_code, printed_links, store as store_at, IsSized};
 
 use hy_base::{NoMemory, Span};
 use hy_front::{Scope, printed};
-use hy_machine::{Fun, Instr, Object, Place, Shown};
+use hy_object::{Fun, Instr, Object, Place, Shown};
 use hy_tree::{Block, Decl, DeclKind, Expr, ExprKind, Link, Program, Stmt, StmtKind};
 use sqlite_items::Items;
 use std::alloc::Global;
@@ -33,7 +34,7 @@ struct Draft {
 /// and to one in which an operator's operand ends before the sum starts: no source has such a tree.
 pub fn lower(alloc: Global, tree: &Program) -> Result<Object, NoMemory>
     requires { IsFirst (Breaks (program_of tree.now)) None }
-    ensures { IfOk result (IsCompiled (program_of tree.now)) }
+    ensures { IfOk result (λ object. IsCompiled (program_of tree.now) object × IsBuilt object) }
 {
     let mut scope = Scope::new(alloc);
     let mut draft = Draft {
@@ -44,6 +45,7 @@ pub fn lower(alloc: Global, tree: &Program) -> Result<Object, NoMemory>
     put(&mut draft.code, Instr::Return { word: ACCUMULATOR })?;
     count(draft.code.len())?;
     count(draft.spans.len())?;
+    read_sizes(draft.code.as_slice());
     if !are_ordered(draft.spans.as_slice()) {
         return Err(NoMemory);
     }
@@ -367,5 +369,31 @@ fn count(n: usize) -> Result<u32, NoMemory>
 fn are_ordered(spans: &[Span]) -> bool
     ensures { IsTrue result → All IsSpan spans.now }
 {
-    spans.iter().all(|span| span.from <= span.to)
+    spans.iter().all(|span| is_ordered(*span))
+}
+
+fn is_ordered(span: Span) -> bool
+    ensures { IsTrue result → IsSpan span }
+{
+    span.from <= span.to
+}
+
+/// Reads each instruction: so it is known that their numbers are of 32 and 64 bits, which the format of objects wants.
+fn read_sizes(code: &[Instr])
+    ensures { All IsSized code.now }
+{
+    for instr in code {
+        read_size(*instr);
+    }
+}
+
+fn read_size(instr: Instr)
+    ensures { IsSized instr }
+{
+    match instr {
+        Instr::Const { value: _, .. } => (),
+        Instr::Copy { to: _, from: _, .. } => (),
+        Instr::Move { to: _, from: _, .. } => (),
+        _ => (),
+    }
 }

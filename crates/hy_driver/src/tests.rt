@@ -13,7 +13,7 @@ struct Seen {
     status: u8,
     out: Vec<u8>,
     err: Vec<u8>,
-    object: usize,
+    object: Vec<u8>,
     turns: u64,
     opened: u64,
 }
@@ -52,7 +52,7 @@ fn call(
         status: report.status,
         out: out.bytes().to_vec(alloc)?,
         err: err.bytes().to_vec(alloc)?,
-        object: report.object.len(),
+        object: report.object.to_vec(alloc)?,
         turns: report.counts.turns,
         opened: report.counts.opened,
     })
@@ -74,7 +74,24 @@ fn a_sum_is_printed(rt: HostRuntime) -> Result<(), Fail> {
     assert_eq!(rt; seen.out.as_slice(), b"42\n".as_slice());
     assert_eq!(rt; seen.err.as_slice(), b"".as_slice());
     assert_eq!(rt; (seen.turns, seen.opened), (1, 0));
-    assert!(rt; seen.object > 0);
+    assert!(rt; seen.object.len() > 0);
+    Ok(())
+}
+
+#[test]
+fn a_sum_is_made_in_the_accumulator(rt: HostRuntime) -> Result<(), Fail> {
+    let alloc = rt.alloc();
+    let source = "fun main() { print(1 + 2) }".as_bytes();
+    let seen = call(alloc, &["run", "p.hylo"], "p.hylo", source, Vec::new(alloc))?;
+    let want: [u8; 31] = [
+        0x48, 0x59, 0x4C, 0x4F, 0x01, // HYLO, version 1
+        0x01, 0x13, 0x05, // one span, at 19, 5 long
+        0x01, 0x00, 0x00, 0x00, 0x02, 0x00, 0x05, // one function, 2 words, 5 instructions
+        0x01, 0x00, 0x01, 0x01, 0x01, 0x02, // 1, 2
+        0x04, 0x00, 0x00, 0x01, 0x00, // the sum
+        0x20, 0x00, 0x00, 0x12, 0x00, // print, return
+    ];
+    assert_eq!(rt; seen.object.as_slice(), want.as_slice());
     Ok(())
 }
 
@@ -273,7 +290,7 @@ fn other_words_are_no_command(rt: HostRuntime) -> Result<(), Fail> {
         let seen = call(alloc, words, "a", SUM.as_bytes(), Vec::new(alloc))?;
         assert_eq!(rt; seen.status, 2, "{words:?}");
         assert_eq!(rt; seen.err.as_slice(), b"usage: hyloc run FILE\n".as_slice());
-        assert_eq!(rt; seen.object, 0);
+        assert_eq!(rt; seen.object.len(), 0);
     }
     Ok(())
 }

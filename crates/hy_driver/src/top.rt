@@ -16,7 +16,8 @@ use hy_base::{
     Span,
 };
 use hy_front::{LONGEST, front, one_tree};
-use hy_machine::{Object, encode, one_run, run, writes_beginnings};
+use hy_machine::run;
+use hy_object::{Object, encode, one_run, writes_beginnings};
 use std::alloc::Global;
 
 /// How many turns a run has.

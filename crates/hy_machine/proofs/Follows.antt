@@ -7,8 +7,8 @@ use Rattle.hy_base.specs.Outside.{StillTells}
 use Rattle.hy_machine.specs.declared.frame.Halt.{Halt}
 use Rattle.hy_machine.specs.declared.frame.Halt.TheVariants as halt
 use Rattle.hy_machine.specs.declared.machine.Machine.{Machine}
-use Rattle.hy_machine.specs.declared.object.Object.{Object}
-use Rattle.hy_machine.specs.declared.object.Instr.{Instr}
+use Rattle.hy_object.specs.declared.object.Object.{Object}
+use Rattle.hy_object.specs.declared.instr.Instr.{Instr}
 use Rattle.hy_machine.specs.Machine.{Cell}
 use Rattle.hy_machine.specs.Runs.{Appends}
 use Rattle.hy_machine.specs.Frames.{Takes, IsSilent}
@@ -32,13 +32,13 @@ silent_executes object i m m' told (Err (halt.Ended e)) takes silent place count
   told = refl;
   no_asks = silent;
 }
-silent_executes object i m m' told (Err (halt.Stuck kind)) takes silent place counts = (λ u. takes (standing m u) refl, refl)
+silent_executes object i m m' told (Err (halt.Stuck why)) takes silent place counts = (λ u. takes (standing m u) refl, refl)
 silent_executes object i m m' told (Err (halt.Cut c)) takes silent place counts = absurd silent
 
 pub silent_faults : (before : ℕ) (result : Result (Unit {0}) Halt) → IsSilent result → before ≡ faults_in before result
 silent_faults before (Ok done) silent = refl
 silent_faults before (Err (halt.Ended e)) silent = refl
-silent_faults before (Err (halt.Stuck kind)) silent = refl
+silent_faults before (Err (halt.Stuck why)) silent = refl
 silent_faults before (Err (halt.Cut c)) silent = absurd silent
 
 -- the same of a frame that is lent as a slice and comes back

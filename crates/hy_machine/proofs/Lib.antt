@@ -1,7 +1,8 @@
-pub mod Beginnings
+pub mod Cells
+pub mod Ends
 pub mod Follows
-pub mod Groups
-pub mod OneEnd
+pub mod Simulates
 pub mod Walking
 pub mod Whole
 pub mod Windows
+pub mod Writes

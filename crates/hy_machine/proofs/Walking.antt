@@ -6,12 +6,14 @@ use Rattle.hy_base.specs.Outside.{StillTells}
 use Rattle.hy_machine.specs.declared.frame.Halt.{Halt}
 use Rattle.hy_machine.specs.declared.frame.Halt.TheVariants as halt
 use Rattle.hy_machine.specs.declared.machine.Machine.{Machine}
-use Rattle.hy_machine.specs.declared.object.Object.{Object}
-use Rattle.hy_machine.specs.declared.object.Instr.{Instr}
-use Rattle.hy_machine.specs.Machine.{State, OutOfRange, Stuck, code, does, fetched, step, steps}
-use Rattle.hy_machine.specs.Runs.{Appends, printed_by, next_piece}
-use Rattle.hy_machine.specs.Walks.{Unkept, standing, written, advanced, GoesOn, EndsRun, IsCut, IsEndAt, Executes, Walked, ComesToEnd, ComesToStop, ComesToCut, Leads}
-use Rattle.hy_machine.proofs.OneEnd.{steps_add}
+use Rattle.hy_object.specs.declared.object.Object.{Object}
+use Rattle.hy_object.specs.declared.instr.Instr.{Instr}
+use Rattle.hy_object.specs.declared.stuck.Kind.TheVariants as kind
+use Rattle.hy_object.specs.States.{Stuck}
+use Rattle.hy_machine.specs.Machine.{State, code, does, fetched, step, steps}
+use Rattle.hy_machine.specs.Runs.{Appends}
+use Rattle.hy_machine.specs.Walks.{printed_by, piece, Unkept, standing, written, advanced, GoesOn, EndsRun, IsCut, IsEndAt, Executes, Walked, ComesToEnd, ComesToStop, ComesToCut, Leads}
+use Rattle.hy_machine.proofs.Ends.{steps_add}
 use Rattle.hy_machine.proofs.Follows.{told_none}
 
 -- what is written after something else
@@ -28,7 +30,7 @@ at_place object instrs place d e h = ap (λ xs. slice_get xs place) (sym e) ∙ 
 fetched_at : (object : Object) (s : State) (o : Option Instr) (i : Instr) → o ≡ Some i → fetched object s o ≡ does object s i
 fetched_at object s o i h = rw h refl
 
-fetched_past : (object : Object) (s : State) (o : Option Instr) → o ≡ None → (fetched object s o).stop ≡ Some (Stuck OutOfRange s.place)
+fetched_past : (object : Object) (s : State) (o : Option Instr) → o ≡ None → (fetched object s o).stop ≡ Some (Stuck kind.Range (record { fun = 0; at = s.place }))
 fetched_past object s o h = rw h refl
 
 pub walked_none : (object : Object) (m : Machine) (told : Option (List ℕ)) → Walked object m m told told
@@ -72,7 +74,7 @@ is_cut object m₀ m m' old mid new i c w h x =
       front = x.front;
       short = x.short;
       path = w.path;
-      told = λ u. told_more old mid new w.bytes (take x.front (next_piece object (standing m u))) w.told
+      told = λ u. told_more old mid new w.bytes (take x.front (piece object (standing m u))) w.told
           (subst (λ o. StillTells mid new (Appends (take x.front (printed_by (standing m u) o)))) (sym h) (x.told u));
     })
 
@@ -80,19 +82,19 @@ is_cut object m₀ m m' old mid new i c w h x =
 pub halts : (object : Object) (m₀ m m' : Machine) (old mid new : Option (List ℕ)) (i : Instr) (h : Halt) → Walked object m₀ m old mid → slice_get (code object) m.place ≡ Some i →
     Executes object i m m' mid new (Err h) → Leads object m₀ m' old new h
 halts object m₀ m m' old mid new i (halt.Ended e) w h x = ends object m₀ m m' old mid new i e w h x
-halts object m₀ m m' old mid new i (halt.Stuck kind) w h x = record {
+halts object m₀ m m' old mid new i (halt.Stuck why) w h x = record {
   count = w.count + 1;
-  at = m.place;
+  at = record { fun = 0; at = m.place };
   stops = λ u. ap (λ s. s.stop) (one_step object m₀ m w.count w.bytes i u (w.path u) h ∙ x.0 (written u w.bytes));
 }
 halts object m₀ m m' old mid new i (halt.Cut c) w h x = is_cut object m₀ m m' old mid new i c w h x
 
 -- behind the last instruction
 pub runs_off : (object : Object) (m₀ m : Machine) (old mid : Option (List ℕ)) (instrs : List Instr) → Walked object m₀ m old mid → instrs ≡ code object → length instrs ≤ m.place →
-    ComesToStop object m₀ OutOfRange
+    ComesToStop object m₀ kind.Range
 runs_off object m₀ m old mid instrs w e h = record {
   count = w.count + 1;
-  at = m.place;
+  at = record { fun = 0; at = m.place };
   stops = λ u. ap (λ s. s.stop) (steps_add object w.count 1 (standing m₀ u) ∙ ap (step object) (w.path u))
       ∙ fetched_past object (standing m (written u w.bytes)) (slice_get (code object) m.place) (ap (λ xs. slice_get xs m.place) (sym e) ∙ slice_get_past instrs m.place h);
 }

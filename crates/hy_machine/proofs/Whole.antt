@@ -1,6 +1,6 @@
--- Whole runs of the program are whole runs of the machine.
-use Rattle.std.proofs.Common.{◌≡◌, ◌≢◌, ℕ, zero, suc, ◌-◌, ◌++◌, List, [], ◌∷◌, length, take, false, Option, Some, None, slice_get, refl, ap, sym, ◌∙◌, subst, arith}
-use Rattle.std.proofs.lemmas.List.{append-nil}
+-- Whole runs of the program are whole runs of the object.
+use Rattle.std.proofs.Common.{◌≡◌, ◌≢◌, ℕ, zero, suc, ◌+◌, ◌-◌, ◌++◌, List, [], ◌∷◌, length, take, drop, false, Option, Some, None, slice_get, refl, ap, sym, ◌∙◌, subst, arith}
+use Rattle.std.proofs.lemmas.List.{append-nil, drop_at}
 use Rattle.hy_base.specs.declared.run.Counts.{Counts}
 use Rattle.hy_base.specs.declared.run.End.{End}
 use Rattle.hy_base.specs.declared.run.End.TheVariants as end
@@ -9,13 +9,24 @@ use Rattle.hy_base.specs.declared.run.RunCause.TheVariants as cause
 use Rattle.hy_base.specs.Outside.{StillTells}
 use Rattle.hy_base.specs.Streams.{Tape}
 use Rattle.hy_machine.specs.declared.machine.Machine.{Machine}
-use Rattle.hy_machine.specs.declared.object.Object.{Object}
-use Rattle.hy_machine.specs.declared.object.Fun.{Fun}
-use Rattle.hy_machine.specs.Machine.{State, Stop, Kind, Ended, Allocated, IsSafe, after, begin, no_counts, seen, steps, words_of}
-use Rattle.hy_machine.specs.Runs.{Appends, IsTaken, IsFront, RanToItsEnd, IsCutOffAt, CountsCause, next_piece}
-use Rattle.hy_machine.specs.Walks.{IsStart, Unkept, standing, written, IsPart, IsEndAt, ComesToEnd, ComesToStop, ComesToCut, faults_of}
+use Rattle.hy_object.specs.declared.object.Object.{Object}
+use Rattle.hy_object.specs.declared.object.Fun.{Fun}
+use Rattle.hy_object.specs.declared.stuck.Kind.{Kind}
+use Rattle.hy_object.specs.Grammar.{IsInGrammar}
+use Rattle.hy_object.specs.Runs.{IsSafe, after, next_piece}
+use Rattle.hy_object.specs.States.{Stop, Ended, Allocated}
+use Rattle.hy_object.specs.Steps as object_steps
+use Rattle.hy_object.specs.Steps.{no_counts}
+use Rattle.hy_object.proofs.OneEnd as object_ends
+use Rattle.hy_machine.specs.Built.{IsBuilt}
+use Rattle.hy_machine.specs.Machine.{State, begin, seen, steps, words_of}
+use Rattle.hy_machine.specs.Runs.{Appends, IsTaken, IsFront, RanToItsEnd, IsCutOffAt, CountsCause}
+use Rattle.hy_machine.specs.Walks.{IsStart, Unkept, standing, written, piece, IsPart, IsEndAt, ComesToEnd, ComesToStop, ComesToCut, faults_of}
 use Rattle.hy_machine.specs.declared.frame.Halt.TheVariants as halt
+use Rattle.hy_machine.proofs.Ends.{steps_add}
 use Rattle.hy_machine.proofs.Follows.{told_none}
+use Rattle.hy_machine.proofs.Simulates.{Alike, alike, runs}
+use Rattle.hy_machine.proofs.Writes.{step_writes}
 
 -- the input that a source has left, if it tells
 abbrev input_of : Option Tape → List ℕ
@@ -30,30 +41,6 @@ taken_none (Some tape) left h = let z : length tape.left - length left ≡ 0 = r
 seen_at : (input : List ℕ) (s : State) (o : Option Stop) (e : Stop) → o ≡ Some e →
     seen input s o ≡ Some (record { output = s.output; stop = e; taken = length input - length s.input; counts = s.counts; journal = s.journal })
 seen_at input s o e h = rw h refl
-
--- a state that the run comes to is an end
-ran : (object : Object) (n k : ℕ) (told : Option Tape) (old new : Option (List ℕ)) (e : End) (counts : Counts) (u : Unkept) (bytes : List ℕ) →
-    u.input ≡ input_of told → u.output ≡ [] → IsEndAt (after object (input_of told) false n k) e counts (written u bytes) → StillTells old new (Appends bytes) →
-    RanToItsEnd object n told told old new (record { end = e; counts = counts })
-ran object n k told old new e counts u bytes i o x t =
-    let s : State = after object (input_of told) false n k in
-    let wrote : s.output ≡ bytes = x.output ∙ ap (λ l. l ++ bytes) o in
-    record {
-      input = input_of told;
-      run = record { output = s.output; stop = Ended e; taken = length (input_of told) - length s.input; counts = s.counts; journal = s.journal };
-      runs = (k, seen_at (input_of told) s s.stop (Ended e) x.stop);
-      ended = refl;
-      counts = x.counts;
-      taken = taken_none told s.input (x.input ∙ i);
-      output = subst (λ b. StillTells old new (Appends b)) (sym wrote) t;
-    }
-
--- with no turn
-pub spent : (object : Object) (n : ℕ) (told : Option Tape) (old : Option (List ℕ)) (counts : Counts) → n ≡ 0 → counts ≡ no_counts →
-    RanToItsEnd object n told told old old (record { end = end.Spent; counts = counts })
-spent object n told old counts z c =
-    rw (z, c) (ran object 0 0 told old old end.Spent no_counts (record { input = input_of told; output = []; left = 0; journal = [] }) [] refl refl
-    (record { stop = refl; counts = refl; input = refl; output = refl }) (told_none old))
 
 front_of : (c : RunCause) (front : ℕ) → IsPart c front → IsFront c front
 front_of cause.Input front h = absurd h
@@ -78,34 +65,73 @@ begins : (object : Object) (n : ℕ) (main : Fun) (m : Machine) → n ≢ 0 → 
 begins object zero main m h f fresh = absurd (h refl)
 begins object (suc n) main m h f fresh = (n, λ input. rw (words_at (slice_get object.funs 0) main f, fresh.frame, fresh.place, fresh.counts) refl)
 
-module _ (object : Object) (n : ℕ) (main : Fun) (m : Machine) (some : n ≢ 0) (first : slice_get object.funs 0 ≡ Some main) (fresh : IsStart m main.words) where
-  pub ended : (m' : Machine) (told : Option Tape) (old new : Option (List ℕ)) (e : End) → ComesToEnd object m m' old new e →
-      RanToItsEnd object n told told old new (record { end = e; counts = m'.counts })
-  ended m' told old new e x =
-      let b = begins object n main m some first fresh in
-      let u : Unkept = start b.0 (input_of told) in
-      ran object n x.count told old new e m'.counts u x.bytes refl refl
-      (subst (λ s. IsEndAt (steps object x.count s) e m'.counts (written u x.bytes)) (sym (b.1 (input_of told))) (x.ends u)) x.told
-
-  pub never_stuck : (kind : Kind) → IsSafe object → ComesToStop object m kind → ⊥
-  never_stuck kind safe x =
-      let b = begins object n main m some first fresh in
-      safe [] false n x.count x.at kind (ap (λ s. (steps object x.count s).stop) (b.1 []) ∙ x.stops (start b.0 []))
-
-  pub cut_off : (m' : Machine) (told : Option Tape) (old new : Option (List ℕ)) (c : RunCause) → ComesToCut object m m' old new c →
-      IsCutOffAt object n told told old new (record { cause = c; counts = m'.counts })
-  cut_off m' told old new c x =
-      let b = begins object n main m some first fresh in
-      let input : List ℕ = input_of told in
-      let u : Unkept = start b.0 input in
-      let same : after object input false n x.count ≡ standing m' (written u x.bytes) = ap (steps object x.count) (b.1 input) ∙ x.path u in
+module _ (object : Object) (n : ℕ) (in_grammar : IsInGrammar object) (built : IsBuilt object) where
+  -- a state that the run comes to is an end
+  ran : (k : ℕ) (told : Option Tape) (old new : Option (List ℕ)) (e : End) (counts : Counts) (u : Unkept) (bytes : List ℕ) →
+      u.input ≡ input_of told → u.output ≡ [] → IsEndAt (steps object k (begin object (input_of told) n)) e counts (written u bytes) → StillTells old new (Appends bytes) →
+      RanToItsEnd object n told told old new (record { end = e; counts = counts })
+  ran k told old new e counts u bytes i o x t =
+      let s : State = steps object k (begin object (input_of told) n) in
+      let wrote : s.output ≡ bytes = x.output ∙ ap (λ l. l ++ bytes) o in
       record {
-        input = input;
-        steps = x.count;
-        front = x.front;
-        short = front_of c x.front x.short;
-        going = ap (λ s. s.stop) same;
-        counts = ap (λ s. s.counts) (sym same);
-        taken = taken_none told (after object input false n x.count).input (ap (λ s. s.input) same);
-        output = subst (λ s. StillTells old new (Appends (s.output ++ take x.front (next_piece object s)))) (sym same) (x.told (written u x.bytes));
+        input = input_of told;
+        run = record { output = s.output; stop = Ended e; taken = length (input_of told) - length s.input; counts = s.counts; journal = s.journal };
+        runs = runs object in_grammar built (input_of told) false n _ (k, seen_at (input_of told) s s.stop (Ended e) x.stop);
+        ended = refl;
+        counts = x.counts;
+        taken = taken_none told s.input (x.input ∙ i);
+        output = subst (λ b. StillTells old new (Appends b)) (sym wrote) t;
       }
+
+  -- with no turn
+  pub spent : (told : Option Tape) (old : Option (List ℕ)) (counts : Counts) → n ≡ 0 → counts ≡ no_counts → RanToItsEnd object n told told old old (record { end = end.Spent; counts = counts })
+  spent told old counts z c =
+      ran 0 told old old end.Spent counts (record { input = input_of told; output = []; left = 0; journal = [] }) [] refl refl
+      (rw (z, c) (record { stop = refl; counts = refl; input = refl; output = refl })) (told_none old)
+
+  -- what the next step writes
+  piece_is : (input : List ℕ) (k : ℕ) → (steps object k (begin object input n)).stop ≡ None → piece object (steps object k (begin object input n)) ≡ next_piece object (after object input false n k)
+  piece_is input k going =
+      let s : State = steps object k (begin object input n) in
+      let now : Alike s (after object input false n k) = alike object in_grammar built input false n k in
+      let one : Alike (steps object 1 s) (object_steps.steps object 1 (after object input false n k)) =
+      subst (λ t. Alike t (object_steps.steps object 1 (after object input false n k))) (steps_add object k 1 (begin object input n))
+      (subst (λ t. Alike (steps object (k + 1) (begin object input n)) t) (object_ends.steps_add object k 1 (object_steps.begin object input false n)) (alike object in_grammar built input false n (k + 1))) in
+      sym ((λ j. drop (length (now.output j)) ((one.output ∙ step_writes object s going) j)) ∙ drop_at s.output (piece object s) (length s.output) refl)
+
+  module _ (main : Fun) (m : Machine) (some : n ≢ 0) (first : slice_get object.funs 0 ≡ Some main) (fresh : IsStart m main.words) where
+    pub ended : (m' : Machine) (told : Option Tape) (old new : Option (List ℕ)) (e : End) → ComesToEnd object m m' old new e →
+        RanToItsEnd object n told told old new (record { end = e; counts = m'.counts })
+    ended m' told old new e x =
+        let b = begins object n main m some first fresh in
+        let u : Unkept = start b.0 (input_of told) in
+        ran x.count told old new e m'.counts u x.bytes refl refl
+        (subst (λ s. IsEndAt (steps object x.count s) e m'.counts (written u x.bytes)) (sym (b.1 (input_of told))) (x.ends u)) x.told
+
+    pub never_stuck : (why : Kind) → IsSafe object → ComesToStop object m why → ⊥
+    never_stuck why safe x =
+        let b = begins object n main m some first fresh in
+        safe [] false n x.count why x.at
+        ((alike object in_grammar built [] false n x.count).stop ∙ (ap (λ s. (steps object x.count s).stop) (b.1 []) ∙ x.stops (start b.0 [])))
+
+    pub cut_off : (m' : Machine) (told : Option Tape) (old new : Option (List ℕ)) (c : RunCause) → ComesToCut object m m' old new c →
+        IsCutOffAt object n told told old new (record { cause = c; counts = m'.counts })
+    cut_off m' told old new c x =
+        let b = begins object n main m some first fresh in
+        let input : List ℕ = input_of told in
+        let u : Unkept = start b.0 input in
+        let s : State = steps object x.count (begin object input n) in
+        let same : s ≡ standing m' (written u x.bytes) = ap (steps object x.count) (b.1 input) ∙ x.path u in
+        let now : Alike s (after object input false n x.count) = alike object in_grammar built input false n x.count in
+        let going : s.stop ≡ None = ap (λ s. s.stop) same in
+        record {
+          input = input;
+          steps = x.count;
+          front = x.front;
+          short = front_of c x.front x.short;
+          going = now.stop ∙ going;
+          counts = ap (λ s. s.counts) (sym same) ∙ sym now.counts;
+          taken = taken_none told (after object input false n x.count).input (now.input ∙ ap (λ s. s.input) same);
+          output = subst (λ bytes. StillTells old new (Appends bytes)) (λ j. sym now.output j ++ take x.front (piece_is input x.count going j))
+              (subst (λ s. StillTells old new (Appends (s.output ++ take x.front (piece object s)))) (sym same) (x.told (written u x.bytes)));
+        }

@@ -2,9 +2,9 @@
 use Rattle.std.proofs.Common.{◌≡◌, ◌≤◌, ℕ, ◌+◌, true, false, nat_le, nat_eq, List, length, replicate, Ok, refl, ap, sym, ◌∙◌, ◌⊎◌, ⊎_elim, arith, rules}
 use Rattle.std.proofs.lemmas.List.{same_lists, places, length-replicate}
 use Rattle.std.proofs.lemmas.Bool.Decides.{nat_tests}
-use Rattle.hy_machine.specs.declared.object.Object.{Object}
-use Rattle.hy_machine.specs.declared.object.Place.{Place}
-use Rattle.hy_machine.specs.declared.object.Instr.TheVariants as instr
+use Rattle.hy_object.specs.declared.object.Object.{Object}
+use Rattle.hy_object.specs.declared.instr.Place.{Place}
+use Rattle.hy_object.specs.declared.instr.Instr.TheVariants as instr
 use Rattle.hy_machine.specs.Machine.{Cell, Unset, all_set, overlap, with_window, window}
 use Rattle.hy_machine.specs.Frames.{reached, Takes}
 

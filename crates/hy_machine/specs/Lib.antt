@@ -1,6 +1,5 @@
-pub mod Bytes
+pub mod Built
 pub mod Frames
-pub mod Grammar
 pub mod Machine
 pub mod Runs
 pub mod Walks

@@ -1,5 +1,5 @@
 -- What the program keeps of a state, and how its instructions follow the machine's.
-use Rattle.std.specs.Prelude.{replicate, ◌≡◌, ◌≢◌, ℕ, suc, ◌+◌, List, ◌++◌, take, Option, Some, None, Result, Ok, Err, ℤ, slice_get}
+use Rattle.std.specs.Prelude.{replicate, ◌≡◌, ◌≢◌, ℕ, suc, ◌+◌, List, [], ◌++◌, take, Option, Some, None, Result, Ok, Err, ℤ, slice_get}
 use Rattle.hy_base.specs.declared.run.End.{End}
 use Rattle.hy_base.specs.declared.run.End.TheVariants as end
 use Rattle.hy_base.specs.declared.run.Counts.{Counts}
@@ -9,18 +9,40 @@ use Rattle.hy_base.specs.Outside.{StillTells}
 use Rattle.hy_machine.specs.declared.frame.Halt.{Halt}
 use Rattle.hy_machine.specs.declared.frame.Halt.TheVariants as halt
 use Rattle.hy_machine.specs.declared.machine.Machine.{Machine}
-use Rattle.hy_machine.specs.declared.object.Object.{Object}
-use Rattle.hy_machine.specs.declared.object.Instr.{Instr}
-use Rattle.hy_machine.specs.declared.object.Shown.{Shown}
-use Rattle.hy_machine.specs.Machine.{Unset, State, Event, Cell, Kind, Ended, Stuck, stuck, does, steps, line_of}
+use Rattle.hy_object.specs.declared.object.Object.{Object}
+use Rattle.hy_object.specs.declared.instr.Instr.{Instr}
+use Rattle.hy_object.specs.declared.instr.Instr.TheVariants as instr
+use Rattle.hy_object.specs.declared.instr.Shown.{Shown}
+use Rattle.hy_object.specs.declared.stuck.Kind.{Kind}
+use Rattle.hy_object.specs.declared.stuck.Pc.{Pc}
+use Rattle.hy_object.specs.States.{Event, Ended, Stuck}
+use Rattle.hy_object.specs.Words.{line_of}
+use Rattle.hy_machine.specs.Machine.{Unset, Word, State, Cell, stuck, does, steps, code}
 use Rattle.hy_machine.specs.Frames.{word_of}
-use Rattle.hy_machine.specs.Runs.{Appends, printed_by, next_piece}
+use Rattle.hy_machine.specs.Runs.{Appends}
 
 -- How much of a line may have gone out before an instruction was cut off. None that is built reads.
 abbrev pub IsPart : RunCause → ℕ → Type 0
 IsPart cause.Input front = ⊥
 IsPart cause.Output front = Unit {0}
 IsPart cause.NoMemory front = front ≡ 0
+
+-- WHAT AN INSTRUCTION WRITES
+
+abbrev pub line_in : Shown → Option Cell → List ℕ
+line_in shown None = []
+line_in shown (Some Unset) = []
+line_in shown (Some (Word n)) = line_of shown n
+
+abbrev pub printed_by : State → Option Instr → List ℕ
+printed_by s (Some (instr.Print word shown)) = line_in shown (slice_get s.frame word)
+printed_by s _ = []
+
+-- the piece that the next instruction writes
+abbrev pub piece : Object → State → List ℕ
+piece object s = printed_by s (slice_get (code object) s.place)
+
+-- STATES OF THE PROGRAM
 
 -- what the program does not keep of a state
 pub record Unkept : Type 0 where
@@ -77,13 +99,13 @@ pub record IsCut (i : Instr) (m m' : Machine) (old new : Option (List ℕ)) (c :
 abbrev pub Executes : Object → Instr → Machine → Machine → Option (List ℕ) → Option (List ℕ) → Result (Unit {0}) Halt → Type 0
 Executes object i m m' old new (Ok done) = GoesOn object i m m' old new
 Executes object i m m' old new (Err (halt.Ended e)) = EndsRun object i m m' old new e
-Executes object i m m' old new (Err (halt.Stuck kind)) = ((u : Unkept) → does object (standing m u) i ≡ stuck (standing m u) kind) × (new ≡ old)
+Executes object i m m' old new (Err (halt.Stuck why)) = ((u : Unkept) → does object (standing m u) i ≡ stuck (standing m u) why) × (new ≡ old)
 Executes object i m m' old new (Err (halt.Cut c)) = IsCut i m m' old new c
 
 -- only a failed output counts a fault
 abbrev pub faults_of : ℕ → Halt → ℕ
 faults_of before (halt.Ended e) = before
-faults_of before (halt.Stuck kind) = before
+faults_of before (halt.Stuck why) = before
 faults_of before (halt.Cut cause.Input) = before
 faults_of before (halt.Cut cause.Output) = suc before
 faults_of before (halt.Cut cause.NoMemory) = before
@@ -108,10 +130,10 @@ pub record ComesToEnd (object : Object) (m m' : Machine) (old new : Option (List
   pub no_asks : e ≢ end.Asks
 
 -- The run is stuck.
-pub record ComesToStop (object : Object) (m : Machine) (kind : Kind) : Type 0 where
+pub record ComesToStop (object : Object) (m : Machine) (why : Kind) : Type 0 where
   pub count : ℕ
-  pub at : ℕ
-  pub stops : (u : Unkept) → (steps object count (standing m u)).stop ≡ Some (Stuck kind at)
+  pub at : Pc
+  pub stops : (u : Unkept) → (steps object count (standing m u)).stop ≡ Some (Stuck why at)
 
 -- The run is cut off in a state that it comes to, after some front of the next piece.
 pub record ComesToCut (object : Object) (m m' : Machine) (old new : Option (List ℕ)) (c : RunCause) : Type 0 where
@@ -120,17 +142,17 @@ pub record ComesToCut (object : Object) (m m' : Machine) (old new : Option (List
   pub front : ℕ
   pub short : IsPart c front
   pub path : (u : Unkept) → steps object count (standing m u) ≡ standing m' (written u bytes)
-  pub told : (u : Unkept) → StillTells old new (Appends (bytes ++ take front (next_piece object (standing m' u))))
+  pub told : (u : Unkept) → StillTells old new (Appends (bytes ++ take front (piece object (standing m' u))))
 
 -- where a run from a machine leads, by why it halts
 abbrev pub Leads : Object → Machine → Machine → Option (List ℕ) → Option (List ℕ) → Halt → Type 0
 Leads object m m' old new (halt.Ended e) = ComesToEnd object m m' old new e
-Leads object m m' old new (halt.Stuck kind) = ComesToStop object m kind
+Leads object m m' old new (halt.Stuck why) = ComesToStop object m why
 Leads object m m' old new (halt.Cut c) = ComesToCut object m m' old new c
 
 -- a word is printed, by the answer
 abbrev pub Prints : List Cell → ℕ → Shown → Option (List ℕ) → Option (List ℕ) → Result (Unit {0}) Halt → Type 0
 Prints frame word shown old new (Ok done) = (n : ℤ) × (word_of (slice_get frame word) ≡ Ok n) × StillTells old new (Appends (line_of shown n))
 Prints frame word shown old new (Err (halt.Ended e)) = ⊥
-Prints frame word shown old new (Err (halt.Stuck kind)) = (word_of (slice_get frame word) ≡ Err (halt.Stuck kind)) × (new ≡ old)
+Prints frame word shown old new (Err (halt.Stuck why)) = (word_of (slice_get frame word) ≡ Err (halt.Stuck why)) × (new ≡ old)
 Prints frame word shown old new (Err (halt.Cut c)) = (n : ℤ) × (front : ℕ) × (word_of (slice_get frame word) ≡ Ok n) × IsPart c front × StillTells old new (Appends (take front (line_of shown n)))

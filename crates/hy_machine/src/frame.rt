@@ -1,13 +1,14 @@
 // The words of a frame, and what an instruction does to them.
 ghost use Rattle.std.specs.Prelude.{◌≡◌, ◌≤◌, ◌+◌, length, replicate, slice_get, slice_set, IfOk, Some};
 ghost use Rattle.hy_base.specs.declared.position.Span.{Span};
-ghost use Rattle.hy_machine.specs.declared.object.Object.{Object};
-ghost use Rattle.hy_machine.specs.declared.object.Instr.TheVariants as instr;
-ghost use Rattle.hy_machine.specs.Machine.{Unset, all_set, overlap, span_at, window, with_window};
+ghost use Rattle.hy_object.specs.declared.object.Object.{Object};
+ghost use Rattle.hy_object.specs.declared.instr.Instr.TheVariants as instr;
+ghost use Rattle.hy_object.specs.Checks.{span_of};
+ghost use Rattle.hy_machine.specs.Machine.{Unset, all_set, overlap, window, with_window};
 ghost use Rattle.hy_machine.specs.Frames.{word_of, reached, Takes, IsSilent};
 
-use crate::object::{Object, Place};
 use hy_base::{End, RunCause, Span, TrapKind};
+use hy_object::{Kind, Object, Place};
 use std::alloc::{AllocError, Global};
 
 /// A word of memory, with whether it is set.
@@ -15,14 +16,6 @@ use std::alloc::{AllocError, Global};
 pub enum Cell {
     Unset,
     Word(i64),
-}
-
-/// Why an instruction cannot go on.
-#[derive(Clone, Copy, Debug, PartialEq, Eq)]
-pub enum Kind {
-    UnsetCell,
-    OutOfRange,
-    EmptySlot,
 }
 
 /// Why no further instruction follows.
@@ -49,8 +42,8 @@ pub fn read(frame: &[Cell], at: u32) -> Result<i64, Halt>
     ensures { result ≡ word_of (slice_get frame.now at) }
 {
     match frame.get(at as usize) {
-        None => Err(Halt::Stuck(Kind::OutOfRange)),
-        Some(Cell::Unset) => Err(Halt::Stuck(Kind::UnsetCell)),
+        None => Err(Halt::Stuck(Kind::Range)),
+        Some(Cell::Unset) => Err(Halt::Stuck(Kind::Unset)),
         Some(Cell::Word(n)) => Ok(*n),
     }
 }
@@ -68,10 +61,10 @@ fn reach(frame: &[Cell], place: Place, words: u32) -> Result<(), Halt>
     ensures { result ≡ reached frame.now place words }
 {
     if place.base != 0 {
-        return Err(Halt::Stuck(Kind::EmptySlot));
+        return Err(Halt::Stuck(Kind::Slot));
     }
     if place.offset as usize + words as usize > frame.len() {
-        return Err(Halt::Stuck(Kind::OutOfRange));
+        return Err(Halt::Stuck(Kind::Range));
     }
     Ok(())
 }
@@ -88,7 +81,7 @@ fn are_set(cells: &[Cell]) -> bool
 }
 
 fn span_in(spans: &[Span], number: u32) -> Span
-    ensures { result ≡ span_at (slice_get spans.now number) }
+    ensures { result ≡ span_of (slice_get spans.now number) }
 {
     match spans.get(number as usize) {
         None => Span { from: 0, to: 0 },
@@ -137,7 +130,7 @@ pub fn copy_words(frame: &mut [Cell], to: Place, from: Place, words: u32) -> Res
     reach(frame, to, words)?;
     reach(frame, from, words)?;
     if !are_set(window(frame, from.offset, words)) {
-        return Err(Halt::Stuck(Kind::UnsetCell));
+        return Err(Halt::Stuck(Kind::Unset));
     }
     copy_window(frame, to.offset, from.offset, words);
     Ok(())
@@ -151,10 +144,10 @@ pub fn move_words(frame: &mut [Cell], to: Place, from: Place, words: u32) -> Res
     reach(frame, to, words)?;
     reach(frame, from, words)?;
     if overlap(to.offset, from.offset, words) {
-        return Err(Halt::Stuck(Kind::OutOfRange));
+        return Err(Halt::Stuck(Kind::Range));
     }
     if !are_set(window(frame, from.offset, words)) {
-        return Err(Halt::Stuck(Kind::UnsetCell));
+        return Err(Halt::Stuck(Kind::Unset));
     }
     copy_window(frame, to.offset, from.offset, words);
     unset_window(frame, from.offset, words);

@@ -1,14 +1,15 @@
 ghost use Rattle.std.specs.Prelude.{[], ◌∷◌, ◌≡◌, ◌-◌, ◌^◌, ◌<◌, IfOk};
 ghost use Rattle.hy_base.specs.Outside.{faults_after, StillTells};
 ghost use Rattle.hy_base.specs.Streams.{Takes, Puts};
-ghost use Rattle.hy_machine.specs.Grammar.{IsInGrammar};
-ghost use Rattle.hy_machine.specs.Machine.{IsSafe};
+ghost use Rattle.std.specs.Prelude.{All};
+ghost use Rattle.hy_object.specs.Grammar.{IsInGrammar};
+ghost use Rattle.hy_object.specs.Runs.{IsSafe};
+ghost use Rattle.hy_machine.specs.Built.{IsBuilt};
 
-use crate::bytes::{put_count, put_value};
-use crate::frame::{Halt, Kind};
-use crate::machine::Machine;
-use crate::*;
+use crate::frame::Halt;
+use crate::machine::{Machine, run};
 use hy_base::{Counts, End, Ending, Failed, NoMemory, RunCause, Sink, Source, Span, TrapKind};
+use hy_object::{Fun, Instr, Kind, Object, Place, Shown};
 use sqlite_items::Items;
 use std::alloc::Global;
 use std::test::Fail;
@@ -124,51 +125,6 @@ const SUM: [Instr; 5] = [
 ];
 
 #[test]
-fn counts_have_their_shortest_form(rt: HostRuntime) -> Result<(), Fail> {
-    let rows: [(u32, &[u8]); 6] = [
-        (0, &[0]),
-        (127, &[0x7F]),
-        (128, &[0x80, 0x01]),
-        (4096, &[0x80, 0x20]),
-        (624_485, &[0xE5, 0x8E, 0x26]),
-        (u32::MAX, &[0xFF, 0xFF, 0xFF, 0xFF, 0x0F]),
-    ];
-    for (n, want) in rows {
-        let mut out = Vec::new(rt.alloc());
-        put_count(&mut out, n)?;
-        assert_eq!(rt; out.as_slice(), want, "at {n}");
-    }
-    Ok(())
-}
-
-#[test]
-fn values_have_their_shortest_form(rt: HostRuntime) -> Result<(), Fail> {
-    let rows: [(i64, &[u8]); 9] = [
-        (0, &[0]),
-        (-1, &[0x7F]),
-        (63, &[0x3F]),
-        (-64, &[0x40]),
-        (64, &[0xC0, 0x00]),
-        (-65, &[0xBF, 0x7F]),
-        (-123_456, &[0xC0, 0xBB, 0x78]),
-        (
-            i64::MAX,
-            &[0xFF, 0xFF, 0xFF, 0xFF, 0xFF, 0xFF, 0xFF, 0xFF, 0xFF, 0x00],
-        ),
-        (
-            i64::MIN,
-            &[0x80, 0x80, 0x80, 0x80, 0x80, 0x80, 0x80, 0x80, 0x80, 0x7F],
-        ),
-    ];
-    for (value, want) in rows {
-        let mut out = Vec::new(rt.alloc());
-        put_value(&mut out, value)?;
-        assert_eq!(rt; out.as_slice(), want, "at {value}");
-    }
-    Ok(())
-}
-
-#[test]
 fn programs_halt_as_they_must(rt: HostRuntime) -> Result<(), Fail> {
     let alloc = rt.alloc();
     let (zero, one, two) = (place(0), place(1), place(2));
@@ -182,8 +138,8 @@ fn programs_halt_as_they_must(rt: HostRuntime) -> Result<(), Fail> {
     };
     let end = Instr::Return { word: 0 };
     let done = Halt::Ended(End::Done);
-    let unset = Halt::Stuck(Kind::UnsetCell);
-    let outside = Halt::Stuck(Kind::OutOfRange);
+    let unset = Halt::Stuck(Kind::Unset);
+    let outside = Halt::Stuck(Kind::Range);
     let overflow = Halt::Ended(End::Trap(TrapKind::Overflow, Span { from: 29, to: 34 }));
     let failed = Halt::Cut(RunCause::Output);
     let rows: [(&[Instr], Halt, &str); 9] = [
@@ -196,7 +152,7 @@ fn programs_halt_as_they_must(rt: HostRuntime) -> Result<(), Fail> {
         ),
         (&[set, moved(zero, zero, 1), end], outside, ""),
         (&[set, copy(two, zero, 2), end], outside, ""),
-        (&[moved(lent, zero, 0)], Halt::Stuck(Kind::EmptySlot), ""),
+        (&[moved(lent, zero, 0)], Halt::Stuck(Kind::Slot), ""),
         (&[constant(i64::MIN), double, end], overflow, ""),
         (&[constant(0), shows(0)], outside, "false\n"),
         (
@@ -217,25 +173,10 @@ fn programs_halt_as_they_must(rt: HostRuntime) -> Result<(), Fail> {
 
 fn sum_object(alloc: Global) -> Result<Object, NoMemory>
     ensures grammar { IfOk result (λ object. IsInGrammar object) }
+    ensures built { IfOk result (λ object. IsBuilt object) }
     ensures safe { IfOk result (λ object. IsSafe object) }
 {
     object_of(alloc, &SUM, 3)
-}
-
-#[test]
-fn a_sum_has_its_bytes(rt: HostRuntime) -> Result<(), Fail> {
-    let alloc = rt.alloc();
-    let want: [u8; 31] = [
-        0x48, 0x59, 0x4C, 0x4F, 0x01, // HYLO, version 1
-        0x01, 0x1D, 0x05, // one span, at 29, 5 long
-        0x01, 0x00, 0x00, 0x00, 0x03, 0x00, 0x05, // one function, 3 words, 5 instructions
-        0x01, 0x00, 0x28, 0x01, 0x01, 0x02, // 40, 2
-        0x04, 0x00, 0x00, 0x01, 0x00, // the sum
-        0x20, 0x00, 0x00, 0x12, 0x00, // print, return
-    ];
-    let bytes = encode(alloc, &sum_object(alloc)?)?;
-    assert_eq!(rt; bytes.as_slice(), want.as_slice());
-    Ok(())
 }
 
 fn ending(end: End, turns: u64) -> Ending {

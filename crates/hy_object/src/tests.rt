@@ -238,8 +238,16 @@ const INSTRUCTIONS: &str = "
 22 05 01 = Check { word: 5, span: 1 }
 ";
 
-// Values, in a `Const` at place 17.
-const VALUES: &str = "
+// Numbers of an instruction at place 17: counts in a `Copy`, and values in a `Const`.
+const NUMBERS: &str = "
+02 01 02 03 04 80 20 = Copy { to: Place { base: 1, offset: 2 }, from: Place { base: 3, offset: 4 }, words: 4096 }
+02 01 80 20 03 04 05 = Copy { to: Place { base: 1, offset: 4096 }, from: Place { base: 3, offset: 4 }, words: 5 }
+02 01 FF FF FF FF 0F 03 7F 05 = Copy { to: Place { base: 1, offset: 4294967295 }, from: Place { base: 3, offset: 127 }, words: 5 }
+02 01 02 03 04 80 A0 00 = 17
+02 01 02 03 04 80 A0 80 00 = 17
+02 01 80 A0 00 03 04 05 = 17
+02 01 80 80 80 80 10 03 04 05 = 17
+02 01 FF FF FF FF 8F 00 03 04 05 = 17
 01 00 00 = Const { to: 0, value: 0 }
 01 00 3F = Const { to: 0, value: 63 }
 01 00 40 = Const { to: 0, value: -64 }
@@ -415,7 +423,7 @@ fn rows(rt: HostRuntime) -> Result<(), Fail> {
         },
         Table {
             before: "48 59 4C 4F 01 02 00 00 01 01 01 00 00 00 08 08 02",
-            rows: VALUES,
+            rows: NUMBERS,
             behind: "12 00",
             instr: true,
         },

@@ -1,7 +1,7 @@
 use Rattle.std.proofs.Common.{◌≡◌, List, ◌++◌, drop, length}
 use Rattle.hy_base.specs.declared.position.Span.{Span}
 use Rattle.hy_tree.specs.Denotes.{links_of}
-use Rattle.hy_machine.specs.declared.object.Instr.{Instr}
+use Rattle.hy_object.specs.declared.instr.Instr.{Instr}
 use Rattle.hy_driver.specs.Lower.{more_code, more_spans}
 use Rattle.hy_driver.proofs.lower.Draft.add.Given as goal
 

@@ -1,7 +1,7 @@
 use Rattle.std.proofs.Common.{◌≡◌, List, ◌++◌, drop, length}
 use Rattle.hy_base.specs.declared.position.Span.{Span}
 use Rattle.hy_tree.specs.Denotes.{stmts_of}
-use Rattle.hy_machine.specs.declared.object.Instr.{Instr}
+use Rattle.hy_object.specs.declared.instr.Instr.{Instr}
 use Rattle.hy_driver.specs.Lower.{block_code, block_spans, declared}
 use Rattle.hy_driver.proofs.lower.Draft.block.Given as goal
 

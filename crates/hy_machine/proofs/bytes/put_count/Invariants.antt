@@ -1,9 +1,0 @@
-use Rattle.std.proofs.Common.{◌≡◌, ◌++◌}
-use Rattle.hy_machine.specs.Bytes.{count_bytes}
-use Rattle.hy_machine.proofs.bytes.put_count.Given as goal
-
-abbrev pub invariant-loop-rest : goal.invariant-loop-rest
-invariant-loop-rest l = l.out.items ++ count_bytes l.rest ≡ l.initial.out.items ++ count_bytes l.n
-
-abbrev pub decreases-loop-rest : goal.decreases-loop-rest
-decreases-loop-rest l = l.rest

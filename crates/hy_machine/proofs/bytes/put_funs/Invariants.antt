@@ -1,6 +1,0 @@
-use Rattle.std.proofs.Common.{◌≡◌, ◌++◌, take, flat_map}
-use Rattle.hy_machine.specs.Bytes.{fun_bytes}
-use Rattle.hy_machine.proofs.bytes.put_funs.Given as goal
-
-abbrev pub invariant-loop-fun : goal.invariant-loop-fun
-invariant-loop-fun l = l.out.items ≡ l.initial.out.items ++ flat_map fun_bytes (take l.fun-index l.funs)

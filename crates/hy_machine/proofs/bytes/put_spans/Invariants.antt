@@ -1,6 +1,0 @@
-use Rattle.std.proofs.Common.{◌≡◌, ◌++◌, take, flat_map}
-use Rattle.hy_machine.specs.Bytes.{span_bytes}
-use Rattle.hy_machine.proofs.bytes.put_spans.Given as goal
-
-abbrev pub invariant-loop-span : goal.invariant-loop-span
-invariant-loop-span l = l.out.items ≡ l.initial.out.items ++ flat_map span_bytes (take l.span-index l.spans)
