@@ -1,22 +1,17 @@
 -- What the machine wants behind the parameters of something callable.
-use Rattle.std.proofs.Common.{◌≡◌, ◌≤◌, ◌<◌, ◌+◌, ◌-◌, ℕ, suc, Bool, true, false, Option, Some, None, List, [], ◌∷◌, ◌++◌, length, map, refl, sym, ap, subst, ◌∙◌, arith}
+use Rattle.std.proofs.Common.{◌≡◌, ◌+◌, ℕ, true, false, Option, Some, None, List, [], refl, ap, ◌∙◌}
 use Rattle.hy_base.specs.declared.position.Span.{Span}
 use Rattle.hy_lexer.specs.declared.token.Token.{Token}
 use Rattle.hy_lexer.specs.declared.token.TokenKind.{TokenKind}
 use Rattle.hy_lexer.specs.declared.token.TokenKind.TheVariants as k
 use Rattle.hy_tree.specs.Tree as T
-use Rattle.hy_tree.specs.declared.name.Name.{Name}
-use Rattle.hy_tree.specs.declared.operator.Introducer.{Introducer}
-use Rattle.hy_tree.specs.declared.operator.Introducer.TheVariants as introducer
 use Rattle.hy_tree.specs.declared.operator.Mode.{Mode}
-use Rattle.hy_tree.specs.declared.operator.Mode.TheVariants as mode
 use Rattle.hy_parser.specs.DeclSteps.{sort_in, with_effect, at_colon, at_effect, at_params_read, at_result, at_body, body_opened, method_body, plain_only, at_callable_read}
 use Rattle.hy_parser.specs.Headings.{Fits, callable_done, effect_in, has_body, may_vary}
-use Rattle.hy_parser.specs.Kinds as kind
-use Rattle.hy_parser.specs.Machine.{step, finish, most_levels, walk}
+use Rattle.hy_parser.specs.Machine.{step, finish, walk}
 use Rattle.hy_parser.specs.Nodes as node
 use Rattle.hy_parser.specs.Separated.{ahead}
-use Rattle.hy_parser.specs.Stack.{Start, Home, InFile, InOwner, Owner, Sort, FileFunction, Method, Requirement, Subscript, Deinit, Head, PlainBody, InBody, State, depth, depth_home, depth_head, ParamsRead, EffectRead, ResultRead, TypeWanted, ForResult, BodyOpened, BlockOpened, MemberRead}
+use Rattle.hy_parser.specs.Stack.{Home, InFile, InOwner, Sort, FileFunction, Method, Requirement, Subscript, Deinit, Head, depth, depth_home, depth_head, ParamsRead, EffectRead, ResultRead, TypeWanted, ForResult, BodyOpened}
 use Rattle.hy_parser.specs.StmtSteps.{callable_of, called_in}
 use Rattle.hy_parser.specs.Wanted.{Sees}
 use Rattle.hy_parser.proofs.Follows.{alike_on, on_each, none_ahead}

@@ -1,5 +1,5 @@
 -- What the machine wants behind the keyword of something callable.
-use Rattle.std.proofs.Common.{◌≡◌, ◌≤◌, ◌+◌, ◌⊎◌, inl, inr, ℕ, Bool, true, false, Option, Some, None, Err, List, [], ◌∷◌, length, refl, sym, ap, subst, ◌∙◌, arith}
+use Rattle.std.proofs.Common.{◌≡◌, ◌≤◌, ◌⊎◌, inl, inr, ℕ, true, false, Some, None, Err, List, [], ◌∷◌, refl, sym, ap, ◌∙◌}
 use Rattle.hy_base.specs.declared.position.Span.{Span}
 use Rattle.hy_lexer.specs.declared.token.Token.{Token}
 use Rattle.hy_lexer.specs.declared.token.TokenKind.{TokenKind}
@@ -10,21 +10,19 @@ use Rattle.hy_parser.specs.declared.heading.Sort.TheVariants as sort
 use Rattle.hy_parser.specs.declared.stop.Stop.{Stop}
 use Rattle.hy_parser.specs.declared.stop.Stop.TheVariants as stop
 use Rattle.hy_parser.specs.DeclSteps.{head_of, sort_in, unnamed, at_subscript_word}
-use Rattle.hy_parser.specs.Headings.{sort_of, Fits, is_file, BelowName}
-use Rattle.hy_parser.specs.Kinds as kind
+use Rattle.hy_parser.specs.Headings.{sort_of, Fits, is_file}
 use Rattle.hy_parser.specs.Machine.{step, finish, Unexpected, most_levels, walk}
 use Rattle.hy_parser.specs.Nodes as node
 use Rattle.hy_parser.specs.Reads.{Halts}
-use Rattle.hy_parser.specs.Stack.{Start, Home, InFile, InOwner, Sort, FileFunction, Method, Requirement, Subscript, Deinit, Head, State, depth, depth_home, FunctionWord, FunctionName, SubscriptWord, ParamsWanted, ParamsOpened}
+use Rattle.hy_parser.specs.Stack.{Start, Home, InFile, InOwner, Subscript, Head, depth_home, FunctionWord, FunctionName, SubscriptWord, ParamsWanted, ParamsOpened}
 use Rattle.hy_parser.specs.Wanted.{Sees, LacksName, TakesName, MissesName}
 use Rattle.hy_parser.proofs.Follows.{OnNext, stops_on}
-use Rattle.hy_parser.proofs.HeadingSteps.{no_name}
 use Rattle.hy_parser.proofs.Walks.{Wants, WantsName, over, alike}
-use Rattle.hy_parser.proofs.WantedKinds.{no_left_paren}
+use Rattle.hy_parser.proofs.WantedKinds.{no_left_paren, no_text}
 
 pub function_names : (home : Home) (start : Start) (keyword : Span) → WantsName (FunctionWord home start keyword) (λ n. FunctionName (head_of home start (sort_in home) keyword (Some n)))
 unfolding step finish
-function_names home start keyword = record { takes = λ t text place h. rw (h, step) refl; refuses_others = λ t place h. no_name t.kind _ h; unfinished = λ place. refl }
+function_names home start keyword = record { takes = λ t text place h. rw (h, step) refl; refuses_others = λ t place h. no_text t.kind _ h; unfinished = λ place. refl }
 
 pub params_want : (head : Head) → Wants k.LeftParen (ParamsWanted head) (λ span. ParamsOpened head)
 unfolding step finish

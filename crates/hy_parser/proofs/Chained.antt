@@ -17,8 +17,9 @@ unfolding node.chain
 chain_ends first [] l last = refl
 chain_ends first (x ∷ more) l last = refl
 
-pub mapped : (links old : List Link) (l : Link) (made : T.Link) → links ≡ old ++ l ∷ [] → link_of l ≡ made → map link_of links ≡ map link_of old ++ made ∷ []
-mapped links old l made h e = ap (map link_of) h ∙ map-append link_of old (l ∷ []) ∙ ap (λ x. map link_of old ++ x ∷ []) e
+-- a list to which a part was pushed, as plain data
+pub pushed : {A B : Type 0} (plain : A → B) (old new : List A) (one : A) (part : B) → new ≡ old ++ one ∷ [] → plain one ≡ part → map plain new ≡ map plain old ++ part ∷ []
+pushed plain old new one part h e = ap (map plain) h ∙ map-append plain old (one ∷ []) ∙ ap (λ z. map plain old ++ z ∷ []) e
 
 pub first_from : (e : Expr) → node.from (expr_of e) ≡ e.span.from
 first_from e = ap (λ at. at.span.from) (expr_at e)
@@ -28,7 +29,7 @@ pub joins : (first boxed operand : Expr) (links old : List Link) (l : Link) (mad
 joins first boxed operand links old l made span b h e s =
     ap (λ x. expr_kind_of (E.Chain x links) (placed span 0)) b
     ∙ chain_is first links (placed span 0)
-    ∙ ap (λ x. T.Chain (expr_of first) (T.links x) (placed span 0)) (mapped links old l made h e)
+    ∙ ap (λ x. T.Chain (expr_of first) (T.links x) (placed span 0)) (pushed link_of old links l made h e)
     ∙ ap (λ x. T.Chain (expr_of first) (T.links (map link_of old ++ made ∷ [])) (placed x 0)) s
     ∙ ap (λ x. T.Chain (expr_of first) (T.links (map link_of old ++ made ∷ [])) (node.at x operand.span.to)) (sym (first_from first))
     ∙ ap (λ x. T.Chain (expr_of first) (T.links (map link_of old ++ made ∷ [])) (node.at (node.from (expr_of first)) x)) (sym (ap (λ at. at.span.to) (expr_at operand)))

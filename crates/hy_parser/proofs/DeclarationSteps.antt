@@ -1,5 +1,5 @@
 -- What the machine wants among declarations.
-use Rattle.std.proofs.Common.{◌≡◌, ◌≤◌, ◌<◌, ◌+◌, ◌-◌, ℕ, suc, Bool, true, false, Option, Some, None, MatchOption, Ok, Err, List, [], ◌∷◌, ◌++◌, length, refl, sym, ap, subst, ◌∙◌, arith}
+use Rattle.std.proofs.Common.{◌≡◌, ◌≤◌, ◌-◌, ℕ, suc, Bool, true, false, Some, None, Ok, Err, List, [], ◌∷◌, ◌++◌, length, refl, sym, ap, subst, ◌∙◌, arith}
 use Rattle.hy_base.specs.declared.position.Span.{Span}
 use Rattle.hy_lexer.specs.declared.token.Token.{Token}
 use Rattle.hy_lexer.specs.declared.token.TokenKind.{TokenKind}
@@ -12,27 +12,26 @@ use Rattle.hy_parser.specs.declared.heading.DeclWord.TheVariants as begun
 use Rattle.hy_parser.specs.declared.stop.Stop.{Stop}
 use Rattle.hy_parser.specs.DeclSteps.{begins_at, at_decl, at_file, at_file_done, decl_of, at_type_name, at_trait_listed}
 use Rattle.hy_parser.specs.Headings.{decl_word, decl_state, separates, separator_next, TakesSeparator}
-use Rattle.hy_parser.specs.Kinds as kind
 use Rattle.hy_parser.specs.Machine.{step, finish, accepted_within, Unexpected, most_levels, walk}
 use Rattle.hy_parser.specs.Nodes as node
 use Rattle.hy_parser.specs.Reads.{Halts}
 use Rattle.hy_parser.specs.Separated.{ahead, TakesSome, TakesPublic}
-use Rattle.hy_parser.specs.Stack.{Start, Opening, Subject, TypeSubject, ConformanceSubject, TraitOwner, ListedOwner, State, depth, FileReady, FileDone, PublicDecl, DeclRead, TypeWord, TypeName, TraitWord, TraitName, ConformanceWord, ConformanceName, TraitWanted, TraitListed, MembersReady}
+use Rattle.hy_parser.specs.Stack.{Start, Opening, Subject, TypeSubject, ConformanceSubject, TraitOwner, ListedOwner, depth, FileReady, FileDone, PublicDecl, DeclRead, TypeWord, TypeName, TraitWord, TraitName, ConformanceWord, ConformanceName, TraitWanted, TraitListed, MembersReady}
 use Rattle.hy_parser.specs.Wanted.{Sees, Takes, Misses, tail}
-use Rattle.hy_parser.proofs.Follows.{OnNext, stops_on, none_ahead, alike_on}
-use Rattle.hy_parser.proofs.HeadingSteps.{no_name}
-use Rattle.hy_parser.proofs.Walks.{Follows, Wants, WantsName, fits, moves, over, alike, alike_at, alike_without, taken}
-use Rattle.hy_parser.proofs.WantedKinds.{no_colon, no_left_brace}
+use Rattle.hy_parser.proofs.MemberSteps.{same_first, count_is}
+use Rattle.hy_parser.proofs.Follows.{OnNext, stops_on, none_ahead}
+use Rattle.hy_parser.proofs.Walks.{Follows, Wants, WantsName, fits, moves, over, alike_at, alike_without}
+use Rattle.hy_parser.proofs.WantedKinds.{no_colon, no_left_brace, no_text}
 
 -- TYPES, TRAITS AND CONFORMANCES
 
 pub type_names : (o : Opening) → WantsName (TypeWord o) (λ n. TypeName o n)
 unfolding step finish
-type_names o = record { takes = λ t text place h. rw (h, step) refl; refuses_others = λ t place h. no_name t.kind _ h; unfinished = λ place. refl }
+type_names o = record { takes = λ t text place h. rw (h, step) refl; refuses_others = λ t place h. no_text t.kind _ h; unfinished = λ place. refl }
 
 pub trait_names : (o : Opening) → WantsName (TraitWord o) (λ n. TraitName o n)
 unfolding step finish
-trait_names o = record { takes = λ t text place h. rw (h, step) refl; refuses_others = λ t place h. no_name t.kind _ h; unfinished = λ place. refl }
+trait_names o = record { takes = λ t text place h. rw (h, step) refl; refuses_others = λ t place h. no_text t.kind _ h; unfinished = λ place. refl }
 
 pub trait_opens : (o : Opening) (name : Name) → Wants k.LeftBrace (TraitName o name) (λ span. MembersReady (TraitOwner o name) [])
 unfolding step finish
@@ -40,7 +39,7 @@ trait_opens o name = record { takes = λ t place h. rw (h, step) refl; refuses_o
 
 pub conformance_names : (o : Opening) → WantsName (ConformanceWord o) (λ n. ConformanceName o (node.used n.text n.span))
 unfolding step finish
-conformance_names o = record { takes = λ t text place h. rw (h, step) refl; refuses_others = λ t place h. no_name t.kind _ h; unfinished = λ place. refl }
+conformance_names o = record { takes = λ t text place h. rw (h, step) refl; refuses_others = λ t place h. no_text t.kind _ h; unfinished = λ place. refl }
 
 pub conformance_colon : (o : Opening) (target : NameUse) → Wants k.Colon (ConformanceName o target) (λ span. TraitWanted o (ConformanceSubject target) [])
 unfolding step finish
@@ -72,7 +71,7 @@ type_stops total o name old e a h = subst (λ z. Halts z (walk total (TypeName o
 
 pub listed_names : (o : Opening) (subject : Subject) (traits : List NameUse) → WantsName (TraitWanted o subject traits) (λ n. TraitListed o subject (traits ++ node.used n.text n.span ∷ []))
 unfolding step finish
-listed_names o subject traits = record { takes = λ t text place h. rw (h, step) refl; refuses_others = λ t place h. no_name t.kind _ h; unfinished = λ place. refl }
+listed_names o subject traits = record { takes = λ t text place h. rw (h, step) refl; refuses_others = λ t place h. no_text t.kind _ h; unfinished = λ place. refl }
 
 separated : (it : TokenKind) (o : Opening) (subject : Subject) (traits : List NameUse) → separates it ≡ true → at_trait_listed it o subject traits ≡ Some (TraitWanted o subject traits)
 separated k.Comma o subject traits h = refl
@@ -140,9 +139,6 @@ pub no_decl_word : (total : ℕ) (decls : List T.Decl) (start : Start) (old : Li
 unfolding step finish
 no_decl_word total decls start old h = stops_on total (PublicDecl decls start) old (λ place. refl) (none_ahead decl_word old h (λ t e place. no_decl t.kind t.span decls start e))
 
-same_first : (one other : Token) (a b : List Token) → one ∷ a ≡ other ∷ b → one ≡ other
-same_first one other a b h = cc
-
 bare_step : (it : TokenKind) (decls : List T.Decl) (t : Token) (place : ℕ) → (it ≡ k.Public → ⊥) → at_file it t place decls ≡ at_decl it t.span decls (begins_at false t place)
 bare_step k.Public decls t place b = absurd (b refl)
 bare_step _ decls t place b = refl
@@ -176,9 +172,6 @@ decl_ended : (total : ℕ) (decls : List T.Decl) (start : Start) (kind : T.DeclK
 unfolding step finish walk
 decl_ended total decls start kind to [] = ap (λ n. accepted_within (Some (node.program (decls ++ decl_of start kind n to ∷ []) to))) (whole total)
 decl_ended total decls start kind to (t ∷ ts) = alike_at total (DeclRead decls start kind to) (FileDone (decls ++ decl_of start kind (total - suc (length ts)) to ∷ []) to) t ts refl
-
-count_is : (total before after : ℕ) → before ≤ total → after ≤ before → (total - after) - (total - before) ≡ before - after
-count_is total before after h g = omega (arith, h, g)
 
 pub decl_counted : (total : ℕ) (decls : List T.Decl) (public : Bool) (first : Token) (kind : T.DeclKind) (to : ℕ) (old rest : List Token) → length old ≤ total → length rest ≤ length old
     → walk total (DeclRead decls (begins_at public first (total - length old)) kind to) rest ≡ walk total (FileDone (decls ++ node.decl public kind (length old - length rest) first.span.from to ∷ []) to) rest

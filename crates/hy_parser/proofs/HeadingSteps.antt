@@ -1,6 +1,5 @@
 -- What the machine wants in the states of type parameters and parameters.
-use Rattle.std.proofs.Common.{◌≡◌, ◌≤◌, ℕ, Bool, true, false, Option, Some, None, Ok, List, [], ◌∷◌, ◌++◌, refl, sym, ap, ◌∙◌}
-use Rattle.hy_base.specs.declared.position.Span.{Span}
+use Rattle.std.proofs.Common.{◌≡◌, ◌≤◌, ℕ, Bool, true, false, Some, None, Ok, List, [], ◌∷◌, ◌++◌, refl}
 use Rattle.hy_lexer.specs.declared.token.Token.{Token}
 use Rattle.hy_lexer.specs.declared.token.TokenKind.{TokenKind}
 use Rattle.hy_lexer.specs.declared.token.TokenKind.TheVariants as k
@@ -20,10 +19,7 @@ use Rattle.hy_parser.specs.Wanted.{Sees}
 use Rattle.hy_parser.proofs.Separators.{Separates, on_comma, on_close}
 use Rattle.hy_parser.proofs.Follows.{alike_on, on_each}
 use Rattle.hy_parser.proofs.Walks.{WantsName, alike_without}
-
-pub no_name : {A : Type 0} (it : TokenKind) (make : List ℕ → A) → ((text : List ℕ) → it ≡ k.Name text → ⊥) → kind.name it make ≡ None
-no_name (k.Name text) make h = absurd (h text refl)
-no_name _ make h = refl
+use Rattle.hy_parser.proofs.WantedKinds.{no_text}
 
 -- TYPE PARAMETERS
 
@@ -31,7 +27,7 @@ pub generic_wants : (head : Head) → WantsName (GenericWanted head) (λ n. Gene
 unfolding step finish
 generic_wants head = record {
   takes = λ t text place h. rw (h, step) refl;
-  refuses_others = λ t place no. no_name t.kind _ no;
+  refuses_others = λ t place no. no_text t.kind _ no;
   unfinished = λ place. refl;
 }
 
@@ -39,7 +35,7 @@ pub bound_wants : (head : Head) (name : Name) (bounds : List NameUse) → WantsN
 unfolding step finish
 bound_wants head name bounds = record {
   takes = λ t text place h. rw (h, step) refl;
-  refuses_others = λ t place no. no_name t.kind _ no;
+  refuses_others = λ t place no. no_text t.kind _ no;
   unfinished = λ place. refl;
 }
 

@@ -1,5 +1,5 @@
 -- What the machine wants among members.
-use Rattle.std.proofs.Common.{◌≡◌, ◌≤◌, ◌<◌, ◌+◌, ◌-◌, ◌⊎◌, inl, inr, ℕ, suc, Bool, true, false, Option, Some, None, MatchOption, Err, List, [], ◌∷◌, ◌++◌, length, refl, sym, ap, subst, ◌∙◌, arith}
+use Rattle.std.proofs.Common.{◌≡◌, ◌≤◌, ◌-◌, ◌⊎◌, inl, inr, ℕ, suc, Bool, true, false, Option, Some, None, MatchOption, Err, List, [], ◌∷◌, ◌++◌, length, refl, sym, ap, ◌∙◌, arith}
 use Rattle.hy_base.specs.declared.position.Span.{Span}
 use Rattle.hy_lexer.specs.declared.token.Token.{Token}
 use Rattle.hy_lexer.specs.declared.token.TokenKind.{TokenKind}
@@ -12,25 +12,22 @@ use Rattle.hy_parser.specs.declared.heading.OwnerSort.{OwnerSort}
 use Rattle.hy_parser.specs.declared.heading.OwnerSort.TheVariants as owner
 use Rattle.hy_parser.specs.declared.heading.Sort as declared
 use Rattle.hy_parser.specs.declared.heading.Sort.TheVariants as sort
-use Rattle.hy_parser.specs.declared.stop.Stop.{Stop}
-use Rattle.hy_parser.specs.DeclSteps.{begins_at, sort_in, at_member, at_trait_member, at_type_member, at_conformance_member, at_public, at_members, at_members_done, owner_read, member_of}
+use Rattle.hy_parser.specs.DeclSteps.{begins_at, sort_in, at_member, at_trait_member, at_type_member, at_conformance_member, at_members, at_members_done, owner_read, member_of}
 use Rattle.hy_parser.specs.Headings.{sort_of, owner_sort, member_word, trait_word, product_word, conformance_word, word_state}
-use Rattle.hy_parser.specs.Kinds as kind
-use Rattle.hy_parser.specs.Machine.{step, finish, accepted_within, Unexpected, most_levels, walk}
+use Rattle.hy_parser.specs.Machine.{step, finish, Unexpected, most_levels, walk}
 use Rattle.hy_parser.specs.Nodes as node
 use Rattle.hy_parser.specs.Separated.{ahead, TakesSome, TakesPublic, TakesMemberPublic}
-use Rattle.hy_parser.specs.Stack.{Start, Owner, TraitOwner, ListedOwner, TypeSubject, ConformanceSubject, InOwner, State, depth, MembersReady, MembersDone, PublicMember, MemberRead, FieldWord, FieldName, MemberwiseWord, TypeWanted, ForField}
+use Rattle.hy_parser.specs.Stack.{Start, Owner, TraitOwner, ListedOwner, TypeSubject, ConformanceSubject, InOwner, depth, MembersReady, MembersDone, PublicMember, MemberRead, FieldWord, FieldName, MemberwiseWord, TypeWanted, ForField}
 use Rattle.hy_parser.specs.Wanted.{Sees, Takes, tail}
-use Rattle.hy_parser.proofs.Follows.{OnNext, stops_on, none_ahead, alike_on}
-use Rattle.hy_parser.proofs.HeadingSteps.{no_name}
-use Rattle.hy_parser.proofs.Walks.{Follows, Wants, WantsName, fits, moves, over, alike, alike_at, alike_without, taken}
-use Rattle.hy_parser.proofs.WantedKinds.{no_colon, no_init}
+use Rattle.hy_parser.proofs.Follows.{stops_on, none_ahead, alike_on}
+use Rattle.hy_parser.proofs.Walks.{Follows, Wants, WantsName, fits, moves, over, alike_at, alike_without, taken}
+use Rattle.hy_parser.proofs.WantedKinds.{no_colon, no_init, no_text}
 
 -- FIELDS
 
 pub field_names : (owner : Owner) (members : List T.Member) (start : Start) → WantsName (FieldWord owner members start) (λ n. FieldName owner members start n)
 unfolding step finish
-field_names owner members start = record { takes = λ t text place h. rw (h, step) refl; refuses_others = λ t place h. no_name t.kind _ h; unfinished = λ place. refl }
+field_names owner members start = record { takes = λ t text place h. rw (h, step) refl; refuses_others = λ t place h. no_text t.kind _ h; unfinished = λ place. refl }
 
 pub field_colon : (owner : Owner) (members : List T.Member) (start : Start) (name : Name) → Wants k.Colon (FieldName owner members start name) (λ span. TypeWanted (ForField owner members start name))
 unfolding step finish
@@ -132,7 +129,7 @@ function_sort (ListedOwner opening (ConformanceSubject target) traits) it s memb
 
 -- WHERE IT BEGINS AND ENDS
 
-same_first : (one other : Token) (a b : List Token) → one ∷ a ≡ other ∷ b → one ≡ other
+pub same_first : (one other : Token) (a b : List Token) → one ∷ a ≡ other ∷ b → one ≡ other
 same_first one other a b h = cc
 
 public_step : (o : Owner) (members : List T.Member) (it : TokenKind) (t : Token) (place : ℕ) → it ≡ k.Public → (owner_sort o ≡ owner.Trait → ⊥) → at_members it t place o members ≡ Some (PublicMember o members (begins_at true t place))
@@ -191,7 +188,7 @@ unfolding step finish
 member_ended total o members start kind to [] = alike_on total (MemberRead o members start kind to) (MembersDone o (members ++ member_of start kind (total - 0) to ∷ [])) [] (λ place. refl) tt
 member_ended total o members start kind to (t ∷ ts) = alike_at total (MemberRead o members start kind to) (MembersDone o (members ++ member_of start kind (total - suc (length ts)) to ∷ [])) t ts refl
 
-count_is : (total before after : ℕ) → before ≤ total → after ≤ before → (total - after) - (total - before) ≡ before - after
+pub count_is : (total before after : ℕ) → before ≤ total → after ≤ before → (total - after) - (total - before) ≡ before - after
 count_is total before after h g = omega (arith, h, g)
 
 -- the member that is made is the one that the machine makes

@@ -1,28 +1,23 @@
 -- What the machine wants in the states of parameters.
-use Rattle.std.proofs.Common.{◌≡◌, ◌≤◌, ◌+◌, ℕ, Option, Some, None, List, [], ◌∷◌, ◌++◌, map, refl, sym, ap, ◌∙◌}
+use Rattle.std.proofs.Common.{◌≡◌, ℕ, Some, None, List, refl, ap}
 use Rattle.hy_base.specs.declared.position.Span.{Span}
 use Rattle.hy_lexer.specs.declared.token.Token.{Token}
 use Rattle.hy_lexer.specs.declared.token.TokenKind.{TokenKind}
 use Rattle.hy_lexer.specs.declared.token.TokenKind.TheVariants as k
-use Rattle.hy_tree.specs.Denotes.{param_of}
 use Rattle.hy_tree.specs.declared.declaration.Label.{Label}
 use Rattle.hy_tree.specs.declared.declaration.Label.TheVariants as label
-use Rattle.hy_tree.specs.declared.declaration.Param.{Param}
 use Rattle.hy_tree.specs.declared.name.Name.{Name}
 use Rattle.hy_tree.specs.declared.operator.Mode.{Mode}
 use Rattle.hy_tree.specs.declared.operator.Mode.TheVariants as mode
 use Rattle.hy_parser.specs.DeclSteps.{at_param, at_params_opened, at_param_first, at_param_read, at_mode, mode_in}
-use Rattle.hy_parser.specs.Kinds as kind
-use Rattle.hy_parser.specs.Machine.{step, finish, most_levels, walk}
-use Rattle.hy_parser.specs.Nodes as node
-use Rattle.hy_parser.specs.Separated.{ahead, TakesSome}
-use Rattle.hy_parser.specs.Stack.{Sort, Head, State, depth_head, ParamsOpened, ParamWanted, ParamFirst, ParamUnlabelled, ParamName, ParamColon, ParamRead, ParamsRead, TypeWanted, ForParam}
+use Rattle.hy_parser.specs.Machine.{step, finish, walk}
+use Rattle.hy_parser.specs.Separated.{ahead}
+use Rattle.hy_parser.specs.Stack.{Head, ParamsOpened, ParamWanted, ParamFirst, ParamUnlabelled, ParamName, ParamColon, ParamRead, ParamsRead, TypeWanted, ForParam}
 use Rattle.hy_parser.specs.Wanted.{Sees}
-use Rattle.hy_parser.proofs.Follows.{NamesBut, alike_on, none_ahead, neither}
-use Rattle.hy_parser.proofs.HeadingSteps.{no_name}
+use Rattle.hy_parser.proofs.Follows.{NamesBut, alike_on, none_ahead}
 use Rattle.hy_parser.proofs.Separators.{Separates}
-use Rattle.hy_parser.proofs.Walks.{Follows, Wants, WantsName, alike_without, over}
-use Rattle.hy_parser.proofs.WantedKinds.{no_colon}
+use Rattle.hy_parser.proofs.Walks.{Follows, Wants, WantsName, alike_without}
+use Rattle.hy_parser.proofs.WantedKinds.{no_colon, no_text}
 
 pub unlabelled : (head : Head) → Follows k.Underscore (ParamWanted head) (λ span. ParamUnlabelled head span.from)
 unfolding step
@@ -45,7 +40,7 @@ pub unlabelled_wants : (head : Head) (from : ℕ) → WantsName (ParamUnlabelled
 unfolding step finish
 unlabelled_wants head from = record {
   takes = λ t text place h. rw (h, step) refl;
-  refuses_others = λ t place h. no_name t.kind _ h;
+  refuses_others = λ t place h. no_text t.kind _ h;
   unfinished = λ place. refl;
 }
 

@@ -1,13 +1,11 @@
 -- What the parser answers, from where the machine stops.
-use Rattle.std.proofs.Common.{◌≡◌, ℕ, Some, None, Result, Ok, Err, IsErrAnd, List, length, sym, subst, ◌∙◌}
+use Rattle.std.proofs.Common.{◌≡◌, ℕ, Result, Ok, Err, IsErrAnd, List, length, sym, subst}
 use Rattle.hy_base.specs.Answers.{Answers}
-use Rattle.hy_base.specs.First.{IsFirst}
 use Rattle.hy_base.specs.declared.refusal.Fault.{Fault}
 use Rattle.hy_lexer.specs.Spans.{AreApart}
 use Rattle.hy_lexer.specs.declared.token.Token.{Token}
 use Rattle.hy_tree.specs.Denotes.{program_of}
 use Rattle.hy_tree.specs.Numbers.{number_program}
-use Rattle.hy_tree.specs.Tree as T
 use Rattle.hy_tree.specs.declared.declaration.Program.{Program}
 use Rattle.hy_parser.specs.declared.stop.Stop.{Stop}
 use Rattle.hy_parser.specs.Machine.{Halt, start as begin, walk}

@@ -9,7 +9,6 @@ use Rattle.hy_tree.specs.declared.name.Name.{Name}
 use Rattle.hy_tree.specs.declared.operator.Arithmetic.{Arithmetic}
 use Rattle.hy_tree.specs.declared.operator.Introducer.{Introducer}
 use Rattle.hy_tree.specs.declared.operator.Introducer.TheVariants as introducer
-use Rattle.hy_parser.specs.Kinds as kinds
 use Rattle.hy_parser.specs.Kinds.{compound_of}
 use Rattle.hy_parser.specs.Machine.{step, finish}
 use Rattle.hy_parser.specs.Nodes as node
@@ -21,15 +20,11 @@ use Rattle.hy_parser.specs.StatementWords.{word_of, TakesWord, LacksWord, TakesC
 use Rattle.hy_parser.specs.Wanted.{Sees, Takes, TakesName, LacksName}
 use Rattle.hy_parser.specs.declared.statement_words.StmtWord.{StmtWord}
 use Rattle.hy_parser.specs.declared.statement_words.StmtWord.TheVariants as word
-use Rattle.hy_parser.proofs.WantedKinds.{no_equal}
+use Rattle.hy_parser.proofs.WantedKinds.{no_equal, no_text}
 use Rattle.hy_parser.proofs.StatementWalks.{Over, Alike, Stuck, leads, alike, stuck, other_kind}
 
 no_more : (n : ℕ) → n + 0 ≡ n
 no_more n = omega arith
-
-no_text : {A : Type 0} (kind : TokenKind) (make : List ℕ → A) → ((text : List ℕ) → kind ≡ k.Name text → ⊥) → kinds.name kind make ≡ None
-no_text (k.Name text) make h = absurd (h text refl)
-no_text _ make h = refl
 
 -- ---- a statement begins
 

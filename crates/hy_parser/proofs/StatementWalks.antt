@@ -1,6 +1,5 @@
 -- How far the machine with the limit has come while a function reads a part, with the levels that are left there.
-use Rattle.std.proofs.Common.{◌≡◌, ◌+◌, ℕ, Some, None, Result, Err, List, [], ◌∷◌, ◌++◌, map, length, refl, sym, ap, subst, ◌∙◌, arith}
-use Rattle.std.proofs.lemmas.List.{map-append}
+use Rattle.std.proofs.Common.{◌≡◌, ◌+◌, ℕ, Some, None, Result, Err, List, [], ◌∷◌, length, refl, sym, ap, subst, ◌∙◌, arith}
 use Rattle.hy_base.specs.declared.position.Span.{Span}
 use Rattle.hy_lexer.specs.declared.token.Token.{Token}
 use Rattle.hy_lexer.specs.declared.token.TokenKind.{TokenKind}
@@ -53,10 +52,6 @@ stuck s (t ∷ ts) f g = record { stops = λ total. walks.halts total s t (t ∷
 -- the first token is not of a kind
 pub other_kind : (kind : TokenKind) (old : List Token) → (Sees kind old → ⊥) → (t : Token) (ts : List Token) → old ≡ t ∷ ts → t.kind ≡ kind → ⊥
 other_kind kind old h t ts e is = h (subst (Sees kind) (sym e) is)
-
--- a list to which a part was pushed, as plain data
-pub pushed : {A B : Type 0} (plain : A → B) (old new : List A) (one : A) (part : B) → new ≡ old ++ one ∷ [] → plain one ≡ part → map plain new ≡ map plain old ++ part ∷ []
-pushed plain old new one part h e = ap (map plain) h ∙ map-append plain old (one ∷ []) ∙ ap (λ z. map plain old ++ z ∷ []) e
 
 -- ---- going on
 

@@ -1,5 +1,5 @@
 -- What the machine wants in bodies that may be variants.
-use Rattle.std.proofs.Common.{◌≡◌, ◌≤◌, ◌<◌, ◌+◌, ◌-◌, ℕ, suc, Bool, true, false, Option, Some, None, List, [], ◌∷◌, ◌++◌, length, map, refl, sym, ap, subst, ◌∙◌, arith}
+use Rattle.std.proofs.Common.{◌≡◌, ◌≤◌, ◌+◌, ℕ, true, false, Option, Some, None, List, [], ◌∷◌, refl, sym, ap, subst, ◌∙◌, arith}
 use Rattle.hy_base.specs.declared.position.Span.{Span}
 use Rattle.hy_lexer.specs.declared.token.Token.{Token}
 use Rattle.hy_lexer.specs.declared.token.TokenKind.{TokenKind}
@@ -10,22 +10,21 @@ use Rattle.hy_tree.specs.declared.operator.Introducer.{Introducer}
 use Rattle.hy_tree.specs.declared.operator.Introducer.TheVariants as introducer
 use Rattle.hy_tree.specs.declared.operator.Mode.{Mode}
 use Rattle.hy_tree.specs.declared.operator.Mode.TheVariants as mode
-use Rattle.hy_parser.specs.DeclSteps.{at_set, at_body_opened, at_body_word, at_variants_read}
+use Rattle.hy_parser.specs.DeclSteps.{at_set, at_body_word, at_variants_read}
 use Rattle.hy_parser.specs.Headings.{is_left_brace, opens_block, is_subscript, begins_variant, begins_variants, set_in, variant_mode, variant_word}
 use Rattle.hy_parser.specs.Kinds as kind
-use Rattle.hy_parser.specs.Machine.{step, finish, Unexpected, most_levels, walk}
+use Rattle.hy_parser.specs.Machine.{step, finish, most_levels, walk}
 use Rattle.hy_parser.specs.Nodes as node
 use Rattle.hy_parser.specs.OperandSteps.{}
 use Rattle.hy_parser.specs.Reads.{Halts}
 use Rattle.hy_parser.specs.Separated.{ahead, TakesSome}
-use Rattle.hy_parser.specs.Stack.{Sort, FileFunction, Method, Requirement, Subscript, Deinit, Head, PlainBody, VariantBody, InBody, State, depth, depth_head, BodyWanted, BodyOpened, BodyWord, BlockOpened, VariantsRead, SetWord, SetOpened, SetName, BindingWord, BindingName}
-use Rattle.hy_parser.specs.StmtSteps.{at_block_opened, callable_read}
+use Rattle.hy_parser.specs.Stack.{Sort, FileFunction, Method, Requirement, Subscript, Deinit, Head, PlainBody, VariantBody, InBody, depth, depth_head, BodyWanted, BodyOpened, BodyWord, BlockOpened, VariantsRead, SetWord, SetOpened, SetName, BindingWord, BindingName}
+use Rattle.hy_parser.specs.StmtSteps.{callable_read}
 use Rattle.hy_parser.specs.Wanted.{Sees, Misses}
 use Rattle.hy_parser.specs.declared.stop.Stop.{Stop}
-use Rattle.hy_parser.proofs.Follows.{OnNext, alike_on, on_each, stops_on}
-use Rattle.hy_parser.proofs.HeadingSteps.{no_name}
+use Rattle.hy_parser.proofs.Follows.{OnNext, alike_on, stops_on}
 use Rattle.hy_parser.proofs.Walks.{fits, Follows, Wants, WantsName, over, alike}
-use Rattle.hy_parser.proofs.WantedKinds.{no_left_paren, no_right_paren, no_left_brace}
+use Rattle.hy_parser.proofs.WantedKinds.{no_left_paren, no_right_paren, no_left_brace, no_text}
 
 -- A VARIANT
 
@@ -48,7 +47,7 @@ set_wants head brace variants keyword = record { takes = λ t place h. rw (h, st
 
 pub set_names : (head : Head) (brace : Span) (variants : List T.Variant) (keyword : Span) → WantsName (SetOpened head brace variants keyword) (λ n. SetName head brace variants keyword n)
 unfolding step finish
-set_names head brace variants keyword = record { takes = λ t text place h. rw (h, step) refl; refuses_others = λ t place h. no_name t.kind _ h; unfinished = λ place. refl }
+set_names head brace variants keyword = record { takes = λ t text place h. rw (h, step) refl; refuses_others = λ t place h. no_text t.kind _ h; unfinished = λ place. refl }
 
 pub set_closes : (head : Head) (brace : Span) (variants : List T.Variant) (keyword : Span) (name : Name) → Wants k.RightParen (SetName head brace variants keyword name) (λ span. BodyWanted (VariantBody head brace variants keyword mode.Set (Some name)))
 unfolding step finish

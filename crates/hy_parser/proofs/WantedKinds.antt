@@ -1,10 +1,14 @@
 -- Where another kind of token is wanted, a token cannot stand.
-use Rattle.std.proofs.Common.{◌≡◌, None, refl}
+use Rattle.std.proofs.Common.{◌≡◌, ℕ, None, List, refl}
 use Rattle.hy_lexer.specs.declared.token.TokenKind.{TokenKind}
 use Rattle.hy_lexer.specs.declared.token.TokenKind.TheVariants as k
 use Rattle.hy_parser.specs.Kinds as kind
 
 module _ {A : Type 0} where
+  pub no_text : (found : TokenKind) (make : List ℕ → A) → ((text : List ℕ) → found ≡ k.Name text → ⊥) → kind.name found make ≡ None
+  no_text (k.Name text) make h = absurd (h text refl)
+  no_text _ make h = refl
+
   pub no_left_paren : (found : TokenKind) (a : A) → (found ≡ k.LeftParen → ⊥) → kind.left_paren found a ≡ None
   no_left_paren k.LeftParen a h = absurd (h refl)
   no_left_paren _ a h = refl

@@ -7,7 +7,6 @@ use Rattle.hy_lexer.specs.declared.token.TokenKind.{TokenKind}
 use Rattle.hy_lexer.specs.declared.token.TokenKind.TheVariants as k
 use Rattle.hy_tree.specs.Denotes.{param_of, type_of}
 use Rattle.hy_tree.specs.Tree as T
-use Rattle.hy_tree.specs.declared.declaration.Label.{Label}
 use Rattle.hy_tree.specs.declared.declaration.TypeParam.{TypeParam}
 use Rattle.hy_tree.specs.declared.name.Name.{Name}
 use Rattle.hy_tree.specs.declared.operator.Mode.{Mode}

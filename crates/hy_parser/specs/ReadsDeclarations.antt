@@ -1,5 +1,5 @@
 -- What the functions that read declarations ensure.
-use Rattle.std.specs.Prelude.{◌≡◌, ◌≤◌, ◌+◌, ℕ, Bool, true, false, List, [], ◌∷◌, ◌++◌, Option, Some, None, Result, Ok, Err, length, map}
+use Rattle.std.specs.Prelude.{◌≡◌, ◌≤◌, ◌+◌, ℕ, Bool, List, [], ◌∷◌, ◌++◌, Option, None, Result, Ok, Err, length, map}
 use Rattle.hy_base.specs.First.{Refusal}
 use Rattle.hy_base.specs.declared.position.Span.{Span}
 use Rattle.hy_base.specs.declared.refusal.Fault.{Fault}
@@ -27,9 +27,8 @@ use Rattle.hy_parser.specs.declared.stop.Stop.{Stop}
 use Rattle.hy_parser.specs.Headings.{sort_of, DeclAt, FileAt, TypeNamed, Listing, MemberAt, OwnerOf, BelowFunction, BelowName, BelowDeinit, OfSort, Below, BelowSubscript, headed, callable_done, with_generics, generic_done, variant_word, Varying, Owned, Begun}
 use Rattle.hy_parser.specs.DeclSteps.{head_of, opening, owner_read}
 use Rattle.hy_parser.specs.Machine.{most_levels, start as begin, walk}
-use Rattle.hy_parser.specs.Nodes as node
 use Rattle.hy_parser.specs.Reads.{Halts, Reads, ReadsCounted}
-use Rattle.hy_parser.specs.Stack.{TypeSubject, ListedOwner, FileReady, FileDone, DeclRead, PublicDecl, TypeName, TraitWanted, FieldWord, MemberwiseWord, PublicMember, MemberRead, MembersReady, MembersDone, depth_head, depth_home, Subscript, Deinit, ParamUnlabelled, Home, Start, Sort, Head, State, Opening, Subject, FunctionWord, FunctionName, SubscriptWord, GenericWanted, BoundWanted, ParamsWanted, ParamsOpened, ParamWanted, ParamFirst, ParamColon, ParamRead, ParamsRead, EffectRead, ResultRead, TypeWanted, ForParam, ForResult, BodyWanted, VariantBody, PlainBody, InBody, BodyOpened, BlockOpened, VariantsRead}
+use Rattle.hy_parser.specs.Stack.{TypeSubject, ListedOwner, FileReady, FileDone, DeclRead, PublicDecl, TypeName, TraitWanted, FieldWord, MemberwiseWord, PublicMember, MemberRead, MembersReady, MembersDone, depth_head, depth_home, Subscript, Deinit, ParamUnlabelled, Head, State, Opening, FunctionWord, FunctionName, SubscriptWord, GenericWanted, BoundWanted, ParamsWanted, ParamsOpened, ParamWanted, ParamFirst, ParamColon, ParamRead, ParamsRead, EffectRead, ResultRead, TypeWanted, ForParam, ForResult, BodyWanted, VariantBody, PlainBody, InBody, BodyOpened, BlockOpened, VariantsRead}
 use Rattle.hy_parser.specs.TypeSteps.{with_param}
 
 -- a part that opens no level by itself, at any level

@@ -1,5 +1,5 @@
 -- What comes of the token behind a part of a list, and of a token of several kinds.
-use Rattle.std.specs.Prelude.{◌≡◌, ℕ, Bool, true, false, Option, Some, None, List, [], ◌∷◌, Result, Ok, Err, length}
+use Rattle.std.specs.Prelude.{◌≡◌, Bool, true, false, Option, Some, None, List, [], ◌∷◌, Result, Ok, Err}
 use Rattle.hy_base.specs.declared.position.Span.{Span}
 use Rattle.hy_lexer.specs.declared.token.Token.{Token}
 use Rattle.hy_lexer.specs.declared.token.TokenKind.{TokenKind}

@@ -395,16 +395,22 @@ const DEEP: [(&str, &str, u32, &str, &str); 14] = [
     ("fun main() { var x = ", "-", 199, "1 }", "ok"),
     ("fun main() { var x = ", "-", 200, "1 }", "P2 220-221"),
     ("fun main() { var x = ", "[", 200, "1 }", "P2 220-221"),
-    ("fun f(a: ", "Array<", 200, "", "P2 1208-1209"),
+    ("fun f(a: ", "Array<", 200, "Int", "P2 1208-1209"),
     ("fun f(a: ", "(", 200, "", "P1 209-209"),
     ("fun f() { ", "while x { ", 199, "y", "P1 2001-2001"),
-    ("fun f() { ", "while x { ", 200, "y", "P2 1998-1999"),
+    ("fun f() { ", "while x { ", 200, "y", "P2 2008-2009"),
     ("fun f() { x = ", "if ", 200, "y", "P2 611-613"),
     ("fun f() { x = y", " + (1)", 1000, " }", "ok"),
     ("fun f() { x", ".y[1](2)", 1000, " }", "ok"),
 ];
 
-fn repeated(alloc: Global, before: &str, text: &str, times: u32, behind: &str) -> Result<Vec<u8>, AllocError> {
+fn repeated(
+    alloc: Global,
+    before: &str,
+    text: &str,
+    times: u32,
+    behind: &str,
+) -> Result<Vec<u8>, AllocError> {
     let mut source = Vec::new(alloc);
     push_source(&mut source, before)?;
     for _ in 0..times {

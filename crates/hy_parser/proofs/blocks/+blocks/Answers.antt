@@ -12,7 +12,8 @@ use Rattle.hy_parser.specs.declared.statement_words.StmtWord.TheVariants as word
 use Rattle.hy_parser.proofs.BlockSteps.{closes_empty, to_first, made_block, loop_braces, branch_braces, else_braces, unbraced, braced}
 use Rattle.hy_parser.proofs.StatementNodes.{block_at}
 use Rattle.hy_parser.proofs.StatementSteps.{to_word, to_target, to_else, to_else_if, no_else}
-use Rattle.hy_parser.proofs.StatementWalks.{pushed, starts, comes, over, turns, stays, reads, values, reads_stmt, fails, goes_on}
+use Rattle.hy_parser.proofs.Chained.{pushed}
+use Rattle.hy_parser.proofs.StatementWalks.{starts, comes, over, turns, stays, reads, values, reads_stmt, fails, goes_on}
 use Rattle.hy_parser.proofs.Walks.{passes}
 use Rattle.hy_parser.proofs.blocks.+blocks.Goals as goal
 

@@ -1,5 +1,5 @@
-use Rattle.std.proofs.Common.{◌≡◌, ◌+◌, ℕ, true, false, List, [], ◌∷◌, ◌++◌, Some, None, map, refl, sym, ap, subst, ◌∙◌, arith}
-use Rattle.hy_parser.specs.Headings.{sort_of, Below, headed, callable_done}
+use Rattle.std.proofs.Common.{map, sym, ap, ◌∙◌}
+use Rattle.hy_parser.specs.Headings.{sort_of, headed, callable_done}
 use Rattle.hy_parser.specs.Machine.{walk}
 use Rattle.hy_tree.specs.Denotes as D
 use Rattle.hy_parser.specs.StmtSteps.{callable_of}

@@ -1,4 +1,4 @@
-use Rattle.std.proofs.Common.{◌≡◌, ◌+◌, ℕ, true, false, List, [], ◌∷◌, ◌++◌, Some, None, map, refl, sym, ap, subst, ◌∙◌, arith}
+use Rattle.std.proofs.Common.{sym, ap, ◌∙◌, arith}
 use Rattle.hy_parser.specs.Headings.{sort_of, Below, headed, callable_done}
 use Rattle.hy_parser.specs.Machine.{walk}
 use Rattle.hy_tree.specs.Denotes as D

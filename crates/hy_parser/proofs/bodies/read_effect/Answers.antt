@@ -1,5 +1,5 @@
-use Rattle.std.proofs.Common.{◌≡◌, ◌+◌, ℕ, true, false, List, [], ◌∷◌, ◌++◌, Some, None, map, refl, sym, ap, subst, ◌∙◌, arith}
-use Rattle.hy_parser.specs.Headings.{sort_of, Below, headed, callable_done}
+use Rattle.std.proofs.Common.{sym, ap, ◌∙◌}
+use Rattle.hy_parser.specs.Headings.{sort_of, headed}
 use Rattle.hy_parser.specs.Machine.{walk}
 use Rattle.hy_parser.specs.DeclSteps.{with_effect}
 use Rattle.hy_parser.specs.Stack.{ParamsRead, EffectRead}

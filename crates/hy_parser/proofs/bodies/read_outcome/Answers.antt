@@ -1,6 +1,5 @@
-use Rattle.std.proofs.Common.{◌≡◌, ◌+◌, ℕ, true, false, List, [], ◌∷◌, ◌++◌, Some, None, map, refl, sym, ap, subst, ◌∙◌, arith}
-use Rattle.hy_parser.specs.Headings.{sort_of, Below, headed, callable_done}
-use Rattle.hy_parser.specs.Machine.{walk}
+use Rattle.std.proofs.Common.{ap}
+use Rattle.hy_parser.specs.Headings.{sort_of, Below, headed}
 use Rattle.hy_parser.specs.Stack.{ParamsRead, EffectRead, ResultRead, TypeWanted, ForResult}
 use Rattle.hy_parser.proofs.BodySteps.{subscript_wants}
 use Rattle.hy_parser.proofs.Follows.{passed, follows}

@@ -1,7 +1,6 @@
-use Rattle.std.proofs.Common.{◌≡◌, ◌+◌, ℕ, true, false, List, [], ◌∷◌, ◌++◌, Some, None, map, refl, sym, ap, subst, ◌∙◌, arith}
-use Rattle.hy_parser.specs.Headings.{sort_of, Below, headed, callable_done}
+use Rattle.std.proofs.Common.{[], ◌∷◌, ◌++◌, map, refl, sym, ap, ◌∙◌}
+use Rattle.hy_parser.specs.Headings.{sort_of, headed, callable_done}
 use Rattle.hy_parser.specs.Machine.{walk}
-use Rattle.hy_tree.specs.Denotes as D
 use Rattle.hy_tree.specs.Denotes.{block_of, variant_of}
 use Rattle.hy_parser.specs.Nodes as node
 use Rattle.hy_parser.specs.Stack.{PlainBody, InBody}

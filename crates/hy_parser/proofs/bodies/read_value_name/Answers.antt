@@ -1,8 +1,7 @@
-use Rattle.std.proofs.Common.{◌≡◌, ◌+◌, ℕ, true, false, List, [], ◌∷◌, ◌++◌, Some, None, map, refl, sym, ap, subst, ◌∙◌, arith}
-use Rattle.hy_parser.specs.Headings.{sort_of, Below, headed, callable_done}
+use Rattle.std.proofs.Common.{Some, sym, ap, ◌∙◌, arith}
 use Rattle.hy_parser.specs.Machine.{walk}
-use Rattle.hy_parser.specs.Headings.{variant_word, Varying}
-use Rattle.hy_parser.specs.Stack.{SetWord, SetOpened, SetName, BodyWanted, VariantBody}
+use Rattle.hy_parser.specs.Headings.{variant_word}
+use Rattle.hy_parser.specs.Stack.{BodyWanted, VariantBody}
 use Rattle.hy_parser.proofs.Follows.{passed}
 use Rattle.hy_parser.proofs.VariantSteps.{level_word, set_wants, set_names, set_closes}
 use Rattle.hy_parser.proofs.Walks.{wanted, missed, unopened, named, unnamed, from_there}

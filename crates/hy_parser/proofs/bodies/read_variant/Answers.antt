@@ -1,9 +1,6 @@
-use Rattle.std.proofs.Common.{◌≡◌, ◌+◌, ℕ, true, false, List, [], ◌∷◌, ◌++◌, Some, None, map, refl, sym, ap, subst, ◌∙◌, arith}
-use Rattle.hy_parser.specs.Headings.{sort_of, Below, headed, callable_done}
+use Rattle.std.proofs.Common.{[], ◌∷◌, ◌++◌, refl, sym, ap, ◌∙◌, arith}
 use Rattle.hy_parser.specs.Machine.{walk}
-use Rattle.hy_tree.specs.Denotes as D
-use Rattle.hy_parser.specs.Headings.{Varying}
-use Rattle.hy_parser.specs.Stack.{BodyWanted, VariantBody, InBody, VariantsRead}
+use Rattle.hy_parser.specs.Stack.{VariantBody, InBody, VariantsRead}
 use Rattle.hy_parser.proofs.Follows.{passed}
 use Rattle.hy_parser.proofs.VariantSteps.{level_word, variant_block}
 use Rattle.hy_parser.proofs.Walks.{wanted, unopened, from_there}

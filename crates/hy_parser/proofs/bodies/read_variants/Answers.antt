@@ -1,5 +1,5 @@
-use Rattle.std.proofs.Common.{◌≡◌, ◌+◌, ℕ, true, false, List, [], ◌∷◌, ◌++◌, Some, None, map, refl, sym, ap, subst, ◌∙◌, arith}
-use Rattle.hy_parser.specs.Headings.{sort_of, Below, headed, callable_done}
+use Rattle.std.proofs.Common.{[], ◌∷◌, map, sym, ap, ◌∙◌, arith}
+use Rattle.hy_parser.specs.Headings.{sort_of, headed, callable_done}
 use Rattle.hy_parser.specs.Machine.{walk}
 use Rattle.std.proofs.lemmas.List.{map-append}
 use Rattle.hy_tree.specs.Denotes as D

@@ -1,6 +1,5 @@
-use Rattle.std.proofs.Common.{◌≡◌, ◌+◌, ℕ, true, false, List, [], ◌∷◌, ◌++◌, Some, None, map, refl, sym, ap, subst, ◌∙◌, arith}
+use Rattle.std.proofs.Common.{[], sym}
 use Rattle.hy_parser.specs.Headings.{sort_of, Below, headed, callable_done}
-use Rattle.hy_parser.specs.Machine.{walk}
 use Rattle.hy_tree.specs.Denotes as D
 use Rattle.hy_parser.specs.Stack.{PlainBody, InBody, BodyOpened, BlockOpened, VariantsRead}
 use Rattle.hy_parser.proofs.Follows.{follows}

@@ -1,6 +1,6 @@
-use Rattle.std.proofs.Common.{◌≡◌, ◌+◌, inl, inr, ℕ, true, false, List, [], Some, None, map, refl, sym, ap, subst, ◌∙◌, arith}
+use Rattle.std.proofs.Common.{Some, sym, ap, ◌∙◌}
 use Rattle.hy_tree.specs.Denotes as D
-use Rattle.hy_parser.specs.Headings.{sort_of, Below, BelowFunction, BelowSubscript, BelowName, BelowDeinit, headed, callable_done}
+use Rattle.hy_parser.specs.Headings.{sort_of, Below, BelowFunction, headed, callable_done}
 use Rattle.hy_parser.specs.Machine.{walk}
 use Rattle.hy_parser.specs.declared.heading.Heading.{Heading}
 use Rattle.hy_parser.specs.DeclSteps.{head_of}

@@ -1,8 +1,7 @@
-use Rattle.std.proofs.Common.{◌≡◌, ◌+◌, inl, inr, ℕ, true, false, List, [], Some, None, map, refl, sym, ap, subst, ◌∙◌, arith}
+use Rattle.std.proofs.Common.{◌∙◌, arith}
 use Rattle.hy_tree.specs.Denotes as D
-use Rattle.hy_parser.specs.Headings.{sort_of, Below, BelowFunction, BelowSubscript, BelowName, BelowDeinit, headed, callable_done}
-use Rattle.hy_parser.specs.Machine.{walk}
-use Rattle.hy_parser.specs.Stack.{ParamsWanted, ParamsOpened, ParamsRead, ResultRead}
+use Rattle.hy_parser.specs.Headings.{sort_of, Below, headed, callable_done}
+use Rattle.hy_parser.specs.Stack.{ParamsWanted, ResultRead}
 use Rattle.hy_parser.proofs.CallableSteps.{params_want}
 use Rattle.hy_parser.proofs.Follows.{passed, follows}
 use Rattle.hy_parser.proofs.Walks.{wanted, unopened, from_there}

@@ -1,10 +1,9 @@
-use Rattle.std.proofs.Common.{◌≡◌, ◌+◌, inl, inr, ℕ, true, false, List, [], Some, None, map, refl, sym, ap, subst, ◌∙◌, arith}
+use Rattle.std.proofs.Common.{◌≡◌, inl, inr, true, false, refl, sym, ap, ◌∙◌}
 use Rattle.hy_tree.specs.Denotes as D
-use Rattle.hy_parser.specs.Headings.{sort_of, Below, BelowFunction, BelowSubscript, BelowName, BelowDeinit, headed, callable_done}
+use Rattle.hy_parser.specs.Headings.{Below, BelowSubscript, BelowName, headed, callable_done}
 use Rattle.hy_parser.specs.Machine.{walk}
 use Rattle.std.proofs.Common.{Bool}
 use Rattle.hy_parser.specs.declared.heading.Heading.{Heading}
-use Rattle.hy_parser.specs.DeclSteps.{head_of}
 use Rattle.hy_parser.specs.Stack.{Subscript, SubscriptWord, ParamsWanted}
 use Rattle.hy_parser.proofs.CallableSteps.{bare_subscript}
 use Rattle.hy_parser.proofs.Follows.{follows}

@@ -1,4 +1,4 @@
-use Rattle.std.proofs.Common.{Some, None, sym, ap}
+use Rattle.std.proofs.Common.{Some, sym, ap}
 use Rattle.hy_tree.specs.Denotes.{block_of}
 use Rattle.hy_tree.specs.Tree as T
 use Rattle.hy_parser.specs.Nodes as node

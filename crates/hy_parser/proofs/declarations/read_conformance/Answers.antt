@@ -1,10 +1,8 @@
-use Rattle.std.proofs.Common.{◌≡◌, ◌≤◌, ◌+◌, ◌-◌, ℕ, true, false, List, [], ◌∷◌, ◌++◌, length, Some, None, Ok, map, refl, sym, ap, subst, ◌∙◌, arith}
-use Rattle.hy_tree.specs.Denotes as D
+use Rattle.std.proofs.Common.{refl, sym, ap, ◌∙◌, arith}
 use Rattle.hy_parser.specs.Machine.{walk}
 use Rattle.hy_tree.specs.Tree as T
 use Rattle.hy_parser.specs.DeclSteps.{opening}
-use Rattle.hy_parser.specs.Nodes as node
-use Rattle.hy_parser.specs.Stack.{TypeSubject, ConformanceSubject, TraitOwner, ListedOwner, DeclRead, MembersReady, TypeName, TraitName, ConformanceName, TraitWanted}
+use Rattle.hy_parser.specs.Stack.{ConformanceSubject, ListedOwner, DeclRead, ConformanceName}
 use Rattle.hy_parser.proofs.Follows.{passed_counted}
 use Rattle.hy_parser.proofs.Walks.{fits, named, unnamed, wanted, missed, from_there}
 use Rattle.hy_parser.proofs.DeclarationSteps.{conformance_names, conformance_colon}

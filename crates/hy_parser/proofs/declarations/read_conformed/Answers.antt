@@ -1,5 +1,4 @@
-use Rattle.std.proofs.Common.{◌≡◌, ◌≤◌, ◌+◌, ◌-◌, ℕ, true, false, List, [], ◌∷◌, ◌++◌, length, Some, None, Ok, map, refl, sym, ap, subst, ◌∙◌, arith}
-use Rattle.hy_tree.specs.Denotes as D
+use Rattle.std.proofs.Common.{List, [], refl, sym, ap, ◌∙◌}
 use Rattle.hy_parser.specs.Machine.{walk}
 use Rattle.hy_lexer.specs.declared.token.TokenKind.TheVariants as k
 use Rattle.hy_tree.specs.declared.name.NameUse.{NameUse}

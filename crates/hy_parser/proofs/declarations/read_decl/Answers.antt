@@ -1,9 +1,9 @@
-use Rattle.std.proofs.Common.{◌≡◌, ◌≤◌, ◌+◌, ◌-◌, ℕ, true, false, List, [], ◌∷◌, ◌++◌, length, Some, None, Ok, map, refl, sym, ap, subst, ◌∙◌, arith}
+use Rattle.std.proofs.Common.{◌≤◌, ◌-◌, [], ◌∷◌, ◌++◌, length, sym, ap, ◌∙◌, arith}
 use Rattle.hy_tree.specs.Denotes as D
 use Rattle.hy_parser.specs.Machine.{walk}
 use Rattle.hy_parser.specs.DeclSteps.{begins_at}
 use Rattle.hy_parser.specs.Nodes as node
-use Rattle.hy_parser.specs.Stack.{FileReady, FileDone, PublicDecl}
+use Rattle.hy_parser.specs.Stack.{FileDone}
 use Rattle.hy_parser.proofs.DeclarationSteps.{file_begins, decl_counted}
 use Rattle.hy_parser.proofs.Follows.{passed_counted}
 use Rattle.hy_parser.proofs.Walks.{from_there}

@@ -1,10 +1,10 @@
-use Rattle.std.proofs.Common.{◌≡◌, ◌≤◌, ◌+◌, ◌-◌, ℕ, true, false, List, [], ◌∷◌, ◌++◌, length, Some, None, Ok, map, refl, sym, ap, subst, ◌∙◌, arith}
+use Rattle.std.proofs.Common.{ℕ, length, refl, sym, ap, ◌∙◌, arith}
 use Rattle.hy_tree.specs.Denotes as D
 use Rattle.hy_parser.specs.Machine.{walk}
 use Rattle.hy_tree.specs.declared.declaration.DeclKind.{DeclKind}
 use Rattle.hy_parser.specs.declared.stop.Stop.TheVariants as stop
 use Rattle.hy_parser.specs.DeclSteps.{opening}
-use Rattle.hy_parser.specs.Headings.{DeclAt, decl_word, decl_state}
+use Rattle.hy_parser.specs.Headings.{DeclAt, decl_state}
 use Rattle.hy_parser.specs.ReadsDeclarations.{read_decl_kind}
 use Rattle.hy_parser.specs.Stack.{InFile, PublicDecl, DeclRead, TypeWord, TraitWord, ConformanceWord}
 use Rattle.hy_parser.proofs.DeclarationSteps.{decl_begins, no_decl_word}

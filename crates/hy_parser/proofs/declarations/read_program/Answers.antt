@@ -1,8 +1,8 @@
-use Rattle.std.proofs.Common.{◌≡◌, ◌≤◌, ◌+◌, ◌-◌, ℕ, true, false, List, [], ◌∷◌, ◌++◌, length, Some, None, Ok, map, refl, sym, ap, subst, ◌∙◌, arith}
+use Rattle.std.proofs.Common.{[], ◌∷◌, ◌++◌, length, Ok, map, refl, sym, ap, ◌∙◌, arith}
 use Rattle.hy_tree.specs.Denotes as D
 use Rattle.hy_parser.specs.Machine.{walk}
 use Rattle.std.proofs.lemmas.List.{map-append}
-use Rattle.hy_parser.specs.Stack.{FileReady, FileDone}
+use Rattle.hy_parser.specs.Stack.{FileReady}
 use Rattle.hy_parser.proofs.DeclarationSteps.{file_ends}
 use Rattle.hy_parser.proofs.Programs.{program_fails}
 use Rattle.hy_parser.proofs.Walks.{from_there}

@@ -1,7 +1,6 @@
-use Rattle.std.proofs.Common.{◌≡◌, ◌≤◌, ◌+◌, ◌-◌, ℕ, true, false, List, [], ◌∷◌, ◌++◌, length, Some, None, Ok, map, refl, sym, ap, subst, ◌∙◌, arith}
-use Rattle.hy_tree.specs.Denotes as D
+use Rattle.std.proofs.Common.{[], ◌∷◌, ◌++◌, refl, sym, ap, ◌∙◌, arith}
 use Rattle.hy_parser.specs.Machine.{walk}
-use Rattle.hy_parser.specs.Headings.{Separator, separator_next}
+use Rattle.hy_parser.specs.Headings.{separator_next}
 use Rattle.hy_parser.specs.Nodes as node
 use Rattle.hy_parser.specs.Stack.{ListedOwner, TraitWanted, TraitListed, MembersReady}
 use Rattle.hy_parser.proofs.DeclarationSteps.{listed_names, more_traits, traits_open, traits_stop}

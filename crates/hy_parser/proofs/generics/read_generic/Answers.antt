@@ -1,10 +1,10 @@
-use Rattle.std.proofs.Common.{◌∷◌, ◌++◌, [], sym, ap, ◌∙◌, arith}
+use Rattle.std.proofs.Common.{[], sym, ap, ◌∙◌}
 use Rattle.hy_lexer.specs.declared.token.TokenKind.TheVariants as k
 use Rattle.hy_parser.specs.DeclSteps.{with_generic}
 use Rattle.hy_parser.specs.Headings.{generic_done}
 use Rattle.hy_parser.specs.Machine.{walk}
 use Rattle.hy_parser.specs.ReadsDeclarations.{generic_behind}
-use Rattle.hy_parser.specs.Stack.{Head, GenericWanted, GenericName, BoundWanted}
+use Rattle.hy_parser.specs.Stack.{GenericWanted, GenericName, BoundWanted}
 use Rattle.hy_parser.proofs.Follows.{passed, follows, still}
 use Rattle.hy_parser.proofs.HeadingSteps.{generic_wants, generic_name_separates, colon_of_generic, generic_ended}
 use Rattle.hy_parser.proofs.Separators.{on_neither}

@@ -1,10 +1,10 @@
-use Rattle.std.proofs.Common.{◌≡◌, ◌≤◌, ◌+◌, ◌-◌, ℕ, true, false, List, [], ◌∷◌, ◌++◌, length, Some, None, map, refl, sym, ap, subst, ◌∙◌, arith}
+use Rattle.std.proofs.Common.{◌≤◌, ◌-◌, [], ◌∷◌, ◌++◌, length, refl, sym, ap, ◌∙◌, arith}
 use Rattle.hy_tree.specs.Denotes as D
 use Rattle.hy_parser.specs.Machine.{walk}
 use Rattle.hy_parser.specs.DeclSteps.{begins_at}
 use Rattle.hy_parser.specs.Machine.{finish}
 use Rattle.hy_parser.specs.Nodes as node
-use Rattle.hy_parser.specs.Stack.{MembersReady, MembersDone, PublicMember}
+use Rattle.hy_parser.specs.Stack.{MembersReady, MembersDone}
 use Rattle.hy_parser.proofs.Follows.{passed_counted}
 use Rattle.hy_parser.proofs.MemberSteps.{member_begins, member_counted}
 use Rattle.hy_parser.proofs.Walks.{stopped, lacks, from_there}

@@ -1,9 +1,9 @@
-use Rattle.std.proofs.Common.{◌≡◌, ◌≤◌, ◌+◌, ◌-◌, ℕ, true, false, List, [], ◌∷◌, ◌++◌, length, Some, None, map, refl, sym, ap, subst, ◌∙◌, arith}
+use Rattle.std.proofs.Common.{ℕ, length, Some, refl, sym, ap, ◌∙◌}
 use Rattle.hy_tree.specs.Denotes as D
 use Rattle.hy_parser.specs.Machine.{walk}
 use Rattle.hy_tree.specs.declared.declaration.MemberKind.{MemberKind}
 use Rattle.hy_parser.specs.declared.stop.Stop.TheVariants as stop
-use Rattle.hy_parser.specs.Headings.{MemberAt, Begun, BelowDeinit, BelowSubscript, BelowFunction, member_word, word_state}
+use Rattle.hy_parser.specs.Headings.{MemberAt, Begun, member_word, word_state}
 use Rattle.hy_parser.specs.ReadsDeclarations.{read_kind}
 use Rattle.hy_parser.specs.Stack.{InOwner, PublicMember, MemberRead, FieldWord, MemberwiseWord}
 use Rattle.hy_parser.proofs.Follows.{passed, follows}

@@ -1,9 +1,9 @@
-use Rattle.std.proofs.Common.{◌≡◌, ◌≤◌, ◌+◌, ◌-◌, ℕ, true, false, List, [], ◌∷◌, ◌++◌, length, Some, None, map, refl, sym, ap, subst, ◌∙◌, arith}
+use Rattle.std.proofs.Common.{[], ◌∷◌, ◌++◌, map, refl, sym, ap, ◌∙◌, arith}
 use Rattle.hy_tree.specs.Denotes as D
 use Rattle.hy_parser.specs.Machine.{walk}
 use Rattle.std.proofs.lemmas.List.{map-append}
-use Rattle.hy_parser.specs.Stack.{MembersReady, MembersDone}
-use Rattle.hy_parser.proofs.Follows.{passed_counted, still}
+use Rattle.hy_parser.specs.Stack.{MembersReady}
+use Rattle.hy_parser.proofs.Follows.{passed_counted}
 use Rattle.hy_parser.proofs.MemberSteps.{members_close, owner_depth, after_member}
 use Rattle.hy_parser.proofs.Walks.{taken, from_there}
 use Rattle.hy_parser.proofs.members.read_members.Goals as goal

@@ -1,6 +1,4 @@
-use Rattle.std.proofs.Common.{◌≡◌, ◌+◌, ◌-◌, ℕ, true, false, List, [], ◌∷◌, ◌++◌, length, Some, None, map, refl, sym, ap, subst, ◌∙◌, arith}
-use Rattle.hy_tree.specs.Denotes as D
-use Rattle.hy_parser.specs.Machine.{walk}
+use Rattle.std.proofs.Common.{refl}
 use Rattle.hy_parser.proofs.Follows.{passed}
 use Rattle.hy_parser.proofs.MemberSteps.{init_wanted}
 use Rattle.hy_parser.proofs.Walks.{fits, wanted, missed}

@@ -1,7 +1,7 @@
 use Rattle.std.proofs.Common.{sym, ap, ◌∙◌}
 use Rattle.hy_lexer.specs.declared.token.TokenKind.TheVariants as k
 use Rattle.hy_parser.specs.Machine.{walk}
-use Rattle.hy_parser.specs.Stack.{Head, ParamWanted, ParamFirst, ParamUnlabelled, ParamColon}
+use Rattle.hy_parser.specs.Stack.{ParamWanted, ParamFirst, ParamUnlabelled, ParamColon}
 use Rattle.hy_parser.proofs.Follows.{passed, follows, still, named_but, unnamed_but}
 use Rattle.hy_parser.proofs.ParameterSteps.{unlabelled, param_names}
 use Rattle.hy_parser.proofs.Walks.{fits, taken, from_there}

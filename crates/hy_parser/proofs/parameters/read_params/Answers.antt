@@ -1,11 +1,10 @@
-use Rattle.std.proofs.Common.{◌≡◌, ◌+◌, ℕ, List, ◌∷◌, ◌++◌, [], map, refl, sym, ap, ◌∙◌, arith}
+use Rattle.std.proofs.Common.{◌∷◌, [], map, refl, sym, ap, ◌∙◌, arith}
 use Rattle.std.proofs.lemmas.List.{map-append}
 use Rattle.hy_lexer.specs.declared.token.TokenKind.TheVariants as k
 use Rattle.hy_tree.specs.Denotes.{param_of}
-use Rattle.hy_tree.specs.declared.declaration.Param.{Param}
-use Rattle.hy_parser.specs.Headings.{sort_of, Below, headed}
+use Rattle.hy_parser.specs.Headings.{sort_of, headed}
 use Rattle.hy_parser.specs.Machine.{walk}
-use Rattle.hy_parser.specs.Stack.{ParamsOpened, ParamWanted, ParamRead, ParamsRead}
+use Rattle.hy_parser.specs.Stack.{ParamWanted, ParamRead, ParamsRead}
 use Rattle.hy_parser.specs.TypeSteps.{with_param}
 use Rattle.hy_parser.proofs.Follows.{passed, still}
 use Rattle.hy_parser.proofs.ParameterSteps.{no_params, some_params, params_separate}

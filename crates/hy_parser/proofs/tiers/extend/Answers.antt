@@ -1,15 +1,15 @@
 use Rattle.std.proofs.Common.{sym, ap, ◌∙◌}
-use Rattle.hy_tree.specs.Denotes.{expr_of}
+use Rattle.hy_tree.specs.Denotes.{expr_of, link_of}
 use Rattle.hy_parser.specs.ExprSteps as steps
 use Rattle.hy_parser.specs.Nodes as node
 use Rattle.hy_parser.specs.OpenChains.{tier_of}
 use Rattle.hy_parser.specs.Stack as stack
-use Rattle.hy_parser.proofs.Chained.{mapped, first_from}
+use Rattle.hy_parser.proofs.Chained.{pushed, first_from}
 use Rattle.hy_parser.proofs.tiers.extend.Goals as goal
 
 pub returns : goal.returns
 returns c =
     let chain = c.in-Some.chain in
     ap (λ links. stack.OpenChain (expr_of chain.first) links c.args.operator c.args.token)
-    (mapped c.push.new.self chain.links c.link-last.result (node.link (expr_of chain.first) chain.operator chain.token (expr_of c.args.operand)) c.in_ok-push.ensures.ok (c.link-last.ensures (expr_of chain.first) (first_from chain.first)))
+    (pushed link_of chain.links c.push.new.self c.link-last.result (node.link (expr_of chain.first) chain.operator chain.token (expr_of c.args.operand)) c.in_ok-push.ensures.ok (c.link-last.ensures (expr_of chain.first) (first_from chain.first)))
     ∙ sym (ap (λ t. steps.extend (tier_of t) (expr_of c.args.operand) c.args.operator c.args.token) c.in-Some.is)
