@@ -3,7 +3,7 @@ use Rattle.std.proofs.Common.{◌≡◌, ℕ, zero, suc, ◌+◌, ◌<◌, Bool,
 use Rattle.std.specs.Prelude.{if◌then◌else◌, Contains, bytes_eq}
 use Rattle.std.proofs.lemmas.List.{set_split, length-replicate}
 use Rattle.std.proofs.lemmas.Slice.Eq.{bytes_eq-Decides}
-use Rattle.hy_front.specs.Unbuilt.{Scope}
+use Rattle.hy_driver.specs.Scopes.{Scope}
 use Rattle.hy_meaning.specs.Meaning.{Env, Value, look, put, declare, number_in}
 use Rattle.hy_machine.specs.declared.frame.Cell.{Cell}
 use Rattle.hy_machine.specs.declared.frame.Cell.TheVariants.{Unset, Word}

@@ -8,7 +8,7 @@ use Rattle.hy_base.specs.declared.position.Span.{Span}
 use Rattle.hy_tree.specs.Tree as T
 use Rattle.hy_tree.specs.Tree.{Program}
 use Rattle.hy_meaning.specs.Forms.{first_of, links_of, printed, target_of, main_of}
-use Rattle.hy_front.specs.Unbuilt.{Scope}
+use Rattle.hy_driver.specs.Scopes.{Scope}
 use Rattle.hy_object.specs.declared.object.Fun.{Fun}
 use Rattle.hy_object.specs.declared.instr.Shown.TheVariants as shown
 use Rattle.hy_object.specs.declared.instr.Instr.{Instr}

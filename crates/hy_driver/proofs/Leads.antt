@@ -12,7 +12,7 @@ use Rattle.hy_base.specs.declared.run.TrapKind.TheVariants as trap
 use Rattle.hy_tree.specs.Tree as T
 use Rattle.hy_tree.specs.Tree.{Program}
 use Rattle.hy_meaning.specs.Forms.{first_of, links_of, printed, target_of, main_of}
-use Rattle.hy_front.specs.Unbuilt.{Scope, is_known, with_name}
+use Rattle.hy_driver.specs.Scopes.{Scope, is_known, with_name}
 use Rattle.hy_meaning.specs.Meaning as M
 use Rattle.hy_meaning.specs.Meaning.{Env, Value, Int, look, put, declare, number_in, operand_value, Outcome, Gives, Stops, Flow, Next, Over, then_do, and_then, checked, add_all, eval, print_value, exec, block, write}
 use Rattle.hy_object.specs.declared.object.Object.{Object}

@@ -13,7 +13,7 @@ use Rattle.hy_tree.specs.Tree.{Program}
 use Rattle.hy_tree.specs.declared.expression.Link.{Link}
 use Rattle.hy_tree.specs.declared.statement.Stmt.{Stmt}
 use Rattle.hy_meaning.specs.Forms.{main_of}
-use Rattle.hy_front.specs.Unbuilt.{Scope}
+use Rattle.hy_driver.specs.Scopes.{Scope}
 use Rattle.hy_object.specs.declared.object.Fun.{Fun}
 use Rattle.hy_object.specs.declared.instr.Instr.{Instr}
 use Rattle.hy_object.specs.declared.instr.Instr.TheVariants as instr

@@ -5,5 +5,6 @@ pub mod Due
 pub mod Headline
 pub mod Lower
 pub mod Message
+pub mod Scopes
 pub mod Texts
 pub mod Words

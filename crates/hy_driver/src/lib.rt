@@ -4,6 +4,7 @@
 
 mod lower;
 mod message;
+mod scope;
 #[cfg(test)]
 mod tests;
 mod top;

@@ -3,14 +3,19 @@ ghost use Rattle.std.specs.Prelude.{◌≡◌, ℕ, ◌∷◌, length, None, map
 ghost use Rattle.hy_base.specs.First.{IsFirst};
 ghost use Rattle.hy_tree.specs.Denotes.{program_of, decl_of, decl_kind_of, block_of, stmts_of, stmt_of, expr_of, links_of};
 ghost use Rattle.hy_meaning.specs.Forms.{first_of as first_operand, links_of as operators, target_of, main_of, stmts_of as stmts_of_decl, printed as is_printed, stmts_in};
-ghost use Rattle.hy_front.specs.Unbuilt.{Breaks, with_name};
+ghost use Rattle.hy_tree.specs.Findings.{Breaks as BreaksNames};
+ghost use Rattle.hy_tree.specs.Numbers.{number_program};
+ghost use Rattle.hy_tree.specs.Tree.{Program as Tree};
+ghost use Rattle.hy_front.specs.Unbuilt.{Breaks};
 ghost use Rattle.hy_object.specs.Grammar.{IsCount, IsSpan};
 ghost use Rattle.hy_machine.specs.Built.{IsBuilt};
+ghost use Rattle.hy_driver.specs.Scopes.{with_name};
 ghost use Rattle.hy_driver.specs.Compiled.{IsCompiled};
 ghost use Rattle.hy_driver.specs.Lower.{Puts, variable as variable_at, place_of, own as own_place, load as loads, more_spans, sum_code, stmt_code, stmt_spans, block_code, block_spans, declared, declares, more_code, print_code, printed_links, store as store_at, IsSized};
 
+use crate::scope::Scope;
 use hy_base::{NoMemory, Span};
-use hy_front::{Scope, printed};
+use hy_front::printed;
 use hy_object::{Fun, Instr, Object, Place, Shown};
 use hy_tree::{Block, Decl, DeclKind, Expr, ExprKind, Link, Program, Stmt, StmtKind};
 use sqlite_items::Items;
@@ -29,11 +34,13 @@ struct Draft {
     spans: Items<Span>,
 }
 
-/// The object of a tree whose forms are all built. It does what the tree means, for every input and number of turns
+/// The object of a numbered tree that breaks no rule on names and whose forms are all built. It does what the tree means, for every input and number of turns
 /// (`docs/ARCHITECTURE.md`). `NoMemory` is also the answer to a tree that needs 2^32 words, instructions or spans, or more,
 /// and to one in which an operator's operand ends before the sum starts: no source has such a tree.
 pub fn lower(alloc: Global, tree: &Program) -> Result<Object, NoMemory>
-    requires { IsFirst (Breaks (program_of tree.now)) None }
+    requires numbered { (plain : Tree) × (program_of tree.now ≡ number_program plain) }
+    requires named { IsFirst (BreaksNames (program_of tree.now)) None }
+    requires built { IsFirst (Breaks (program_of tree.now)) None }
     ensures { IfOk result (λ object. IsCompiled (program_of tree.now) object × IsBuilt object) }
 {
     let mut scope = Scope::new(alloc);

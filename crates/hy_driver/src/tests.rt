@@ -1,6 +1,7 @@
 // The rows of the top call over objects in memory.
 ghost use Rattle.std.specs.Prelude.{◌≡◌, IfOk};
 
+use crate::scope::Scope;
 use crate::top::hyloc;
 use hy_base::{Files, MemFiles, MemSink, PlainSource};
 use indexmap::IndexMap;
@@ -177,25 +178,58 @@ fn the_earliest_phase_comes_first(rt: HostRuntime) -> Result<(), Fail> {
     Ok(())
 }
 
+const NAMES: &str = "\
+fun main() { print(y) } => p.hylo:1:20 (19-20): N1 unknown name|1
+fun main() { var y = y + 1 } => p.hylo:1:22 (21-22): N1 unknown name|1
+fun main() { x = 1 } => p.hylo:1:14 (13-14): N1 unknown name|1
+fun main() { var x = 1; var x = 2 } => p.hylo:1:29 (28-29): N2 declared twice|1
+fun main() { var print = 1 } => p.hylo:1:18 (17-22): N2 declared twice|1
+fun main() {} fun main() {} => p.hylo:1:19 (18-22): N2 declared twice|1
+fun f(_ x: Foo) {} fun main() {} => p.hylo:1:12 (11-14): N3 unknown type or trait|1
+fun main() { print((1).foo) } => p.hylo:1:24 (23-26): N4 unknown member|1
+fun main() { var a = 1; a.b = 1 } => p.hylo:1:27 (26-27): N4 unknown member|1
+| => p.hylo:1:1 (0-0): N5 there is no fun main()|1
+fun f() {} => p.hylo:1:1 (0-0): N5 there is no fun main()|1
+fun main() -> Int {} => p.hylo:1:1 (0-0): N5 there is no fun main()|1
+fun main() { let x = 1; print(y) } => p.hylo:1:31 (30-31): N1 unknown name|1
+fun main() { print(y); } => p.hylo:1:24 (23-24): P1 unexpected token|1
+";
+
+#[test]
+fn names_come_before_forms(rt: HostRuntime) -> Result<(), Fail> {
+    let alloc = rt.alloc();
+    let rows = answered(alloc, NAMES)?;
+    assert_eq!(rt; rows.got.as_slice(), rows.wanted.as_slice());
+    Ok(())
+}
+
+#[test]
+fn an_empty_file(rt: HostRuntime) -> Result<(), Fail> {
+    let alloc = rt.alloc();
+    let seen = call(alloc, &["run", "e.hylo"], "e.hylo", b"", Vec::new(alloc))?;
+    let message = "e.hylo:1:1 (0-0): N5 there is no fun main()\n";
+    assert_eq!(rt; seen.err.as_slice(), message.as_bytes());
+    assert_eq!(rt; seen.status, 1);
+    Ok(())
+}
+
 const NOT_BUILT: &str = "\
 fun main() { var y = 1; var x = y } => p.hylo:1:33 (32-33): X1 not built yet|1
 fun main() { var y = 1; y = (y) } => p.hylo:1:29 (28-31): X1 not built yet|1
-fun main() { print(y) } => p.hylo:1:20 (19-20): X1 not built yet|1
-fun main() { var y = y + 1 } => p.hylo:1:22 (21-22): X1 not built yet|1
-fun main() { x = 1 } => p.hylo:1:14 (13-14): X1 not built yet|1
-fun main() { var x = 1; var x = 2 } => p.hylo:1:29 (28-29): X1 not built yet|1
-fun main() { var print = 1 } => p.hylo:1:18 (17-22): X1 not built yet|1
+fun main() { print(main) } => p.hylo:1:20 (19-23): X1 not built yet|1
+fun main() { main() } => p.hylo:1:14 (13-19): X1 not built yet|1
 fun main() { let x = 1 } => p.hylo:1:14 (13-22): X1 not built yet|1
 fun main() { var x: Int = 1 } => p.hylo:1:21 (20-23): X1 not built yet|1
 fun main() {| print(1 - 2 + 3) } => p.hylo:2:8 (20-25): X1 not built yet|1
 fun main() { print((1 + 2) + 3) } => p.hylo:1:20 (19-26): X1 not built yet|1
 fun main() { print(-1) } => p.hylo:1:20 (19-21): X1 not built yet|1
 fun main() { print(true) } => p.hylo:1:20 (19-23): X1 not built yet|1
-fun main() { print(1, 2) } => p.hylo:1:14 (13-18): X1 not built yet|1
-fun main() { var a = 1; a.b = 1 } => p.hylo:1:25 (24-27): X1 not built yet|1
+fun main() { print(1, 2) } => p.hylo:1:14 (13-24): X1 not built yet|1
+fun main() { var a = 1; a.count = 1 } => p.hylo:1:25 (24-31): X1 not built yet|1
 fun main() { var a = 1; a += 1 } => p.hylo:1:25 (24-30): X1 not built yet|1
 fun main() { _ = print(1) } => p.hylo:1:14 (13-25): X1 not built yet|1
 fun main() { var x = 1; while x {} } => p.hylo:1:25 (24-34): X1 not built yet|1
+fun main() { var x = 1; while true { print(x) } } => p.hylo:1:31 (30-34): X1 not built yet|1
 fun main() { return } => p.hylo:1:14 (13-19): X1 not built yet|1
 ";
 
@@ -208,13 +242,9 @@ fn forms_that_are_not_built(rt: HostRuntime) -> Result<(), Fail> {
 }
 
 const DECLARATIONS: &str = "\
-| => p.hylo:1:1 (0-0): X1 not built yet|1
-fun f() {} => p.hylo:1:1 (0-0): X1 not built yet|1
-fun main() -> Int {} => p.hylo:1:1 (0-0): X1 not built yet|1
 public fun main() {} => p.hylo:1:1 (0-20): X1 not built yet|1
 fun f() {} fun main() {} => p.hylo:1:1 (0-10): X1 not built yet|1
 fun f(x: Int) {} fun main() {} => p.hylo:1:10 (9-12): X1 not built yet|1
-fun main() {} fun main() {} => p.hylo:1:19 (18-22): X1 not built yet|1
 ";
 
 #[test]
@@ -245,7 +275,7 @@ fn a_source_that_is_too_long(rt: HostRuntime) -> Result<(), Fail> {
     assert_eq!(rt; seen.err.as_slice(), message.as_bytes());
     assert_eq!(rt; seen.status, 1);
     let longest = spaces(alloc, 1_048_576)?;
-    let message = "p.hylo:1:1 (0-0): X1 not built yet\n";
+    let message = "p.hylo:1:1 (0-0): N5 there is no fun main()\n";
     assert_eq!(rt; longest.err.as_slice(), message.as_bytes());
     Ok(())
 }
@@ -319,5 +349,32 @@ fn what_the_outside_fails_at_is_told(rt: HostRuntime) -> Result<(), Fail> {
     assert_eq!(rt; cut.status, 7);
     assert_eq!(rt; cut.out.as_slice(), b"4".as_slice());
     assert_eq!(rt; cut.err.as_slice(), b"hyloc: output fault\n".as_slice());
+    Ok(())
+}
+
+#[test]
+fn a_name_keeps_its_place(rt: HostRuntime) -> Result<(), Fail> {
+    let alloc = rt.alloc();
+    let mut scope = Scope::new(alloc);
+    assert!(rt;
+        scope
+            .declare(alloc, b"x".as_slice())
+            .expect(&rt, "no memory")
+    );
+    assert!(rt;
+        scope
+            .declare(alloc, b"y".as_slice())
+            .expect(&rt, "no memory")
+    );
+    assert!(rt;
+        !scope
+            .declare(alloc, b"x".as_slice())
+            .expect(&rt, "no memory")
+    );
+    assert_eq!(rt;
+        (scope.len(), scope.position(b"y".as_slice())),
+        (2, Some(1))
+    );
+    assert!(rt; scope.knows(b"x".as_slice()) && !scope.knows(b"z".as_slice()));
     Ok(())
 }

@@ -1,5 +1,4 @@
 mod Firsts
-pub mod Keys
 mod Lists
 pub mod Phased
 mod Walks

@@ -1,8 +1,6 @@
 -- The lists of a tree, as lists that a walk goes over.
-use Rattle.std.proofs.Common.{◌≡◌, Bool, ◌||◌, List, [], map, length, ◌∷◌, ◌++◌, Option, Some, None, is_some, refl, sym, ap}
-use Rattle.hy_tree.specs.Denotes.{placed, expr_kind_of, type_of, types_of, expr_of, exprs_of, link_of, links_of, step_of, steps_of, args_of, choices_of, stmt_of, stmts_of, block_of, branches_of, param_of, variant_of, member_of, member_kind_of, decl_of, decl_kind_of}
-use Rattle.hy_tree.specs.Findings.{is_main}
-use Rattle.hy_tree.specs.Names.{is_there}
+use Rattle.std.proofs.Common.{◌≡◌, List, [], map, length, ◌∷◌, ◌++◌, Some, None, refl, sym, ap}
+use Rattle.hy_tree.specs.Denotes.{placed, expr_kind_of, type_of, types_of, expr_of, exprs_of, link_of, links_of, step_of, steps_of, args_of, choices_of, stmt_of, stmts_of, block_of, branches_of, param_of, variant_of, member_of, member_kind_of, decl_of}
 use Rattle.hy_tree.specs.declared.declaration.Decl.{Decl}
 use Rattle.hy_tree.specs.declared.declaration.Member.{Member}
 use Rattle.hy_tree.specs.declared.declaration.Param.{Param}
@@ -20,7 +18,7 @@ use Rattle.hy_tree.specs.declared.expression.Step.{Step}
 use Rattle.hy_tree.specs.declared.written.TypeExp.{TypeExp}
 use Rattle.hy_tree.specs.Tree as T
 use Rattle.hy_meaning.specs.Forms.{only_value, only_call}
-use Rattle.hy_front.specs.Unbuilt.{Scope, in_type, in_types, in_expr, in_exprs, in_link, in_links, in_step, in_steps, in_args, in_choices, in_stmt, in_stmts, in_block, in_branches, behind, when, in_uses, in_generics, in_params, in_variants, in_member_kind, in_members, in_decl, in_decls}
+use Rattle.hy_front.specs.Unbuilt.{Table, in_type, in_types, in_expr, in_exprs, in_link, in_links, in_step, in_steps, in_args, in_choices, in_stmt, in_stmts, in_block, in_branches, is_special, when, in_uses, in_generics, in_params, in_variants, in_member_kind, in_members, in_decl, in_decls}
 use Rattle.hy_front.proofs.Walks.{IsWalk}
 
 -- nothing goes on beside the list
@@ -30,48 +28,42 @@ Alone = Unit {0}
 pub types_walk : IsWalk (λ (s : Alone) (xs : List TypeExp). in_types (types_of xs)) (λ s x. in_type (type_of x)) (λ s x. s)
 types_walk = record { none = λ s. refl; some = λ s x more. refl }
 
-module _ (scope : Scope) where
-  pub exprs_walk : IsWalk (λ (s : Alone) (xs : List Expr). in_exprs scope (exprs_of xs)) (λ s x. in_expr scope (expr_of x)) (λ s x. s)
+module _ (meant : Table) where
+  pub exprs_walk : IsWalk (λ (s : Alone) (xs : List Expr). in_exprs meant (exprs_of xs)) (λ s x. in_expr meant (expr_of x)) (λ s x. s)
   exprs_walk = record { none = λ s. refl; some = λ s x more. refl }
 
-  pub links_walk : IsWalk (λ (s : Alone) (xs : List Link). in_links scope (links_of xs)) (λ s x. in_link scope (link_of x)) (λ s x. s)
+  pub links_walk : IsWalk (λ (s : Alone) (xs : List Link). in_links meant (links_of xs)) (λ s x. in_link meant (link_of x)) (λ s x. s)
   links_walk = record { none = λ s. refl; some = λ s x more. refl }
 
-  pub steps_walk : IsWalk (λ (s : Alone) (xs : List Step). in_steps scope (steps_of xs)) (λ s x. in_step scope (step_of x)) (λ s x. s)
+  pub steps_walk : IsWalk (λ (s : Alone) (xs : List Step). in_steps meant (steps_of xs)) (λ s x. in_step meant (step_of x)) (λ s x. s)
   steps_walk = record { none = λ s. refl; some = λ s x more. refl }
 
-  pub args_walk : IsWalk (λ (s : Alone) (xs : List Arg). in_args scope (args_of xs)) (λ s x. in_expr scope (expr_of x.value)) (λ s x. s)
+  pub args_walk : IsWalk (λ (s : Alone) (xs : List Arg). in_args meant (args_of xs)) (λ s x. in_expr meant (expr_of x.value)) (λ s x. s)
   args_walk = record { none = λ s. refl; some = λ s x more. refl }
 
-  pub choices_walk : IsWalk (λ (s : Alone) (xs : List Choice). in_choices scope (choices_of xs)) (λ s x. in_expr scope (expr_of x.condition) ++ in_expr scope (expr_of x.value)) (λ s x. s)
+  pub choices_walk : IsWalk (λ (s : Alone) (xs : List Choice). in_choices meant (choices_of xs)) (λ s x. in_expr meant (expr_of x.condition) ++ in_expr meant (expr_of x.value)) (λ s x. s)
   choices_walk = record { none = λ s. refl; some = λ s x more. refl }
 
--- the names of the block go on beside its statements
-pub stmts_walk : IsWalk (λ scope (xs : List Stmt). in_stmts scope (stmts_of xs)) (λ scope x. in_stmt scope (stmt_of x)) (λ scope x. behind scope (stmt_of x))
-stmts_walk = record { none = λ s. refl; some = λ s x more. refl }
+  pub stmts_walk : IsWalk (λ (s : Alone) (xs : List Stmt). in_stmts meant (stmts_of xs)) (λ s x. in_stmt meant (stmt_of x)) (λ s x. s)
+  stmts_walk = record { none = λ s. refl; some = λ s x more. refl }
 
-pub branches_walk : (scope : Scope) → IsWalk (λ (s : Alone) (xs : List Branch). in_branches scope (branches_of xs)) (λ s x. in_expr scope (expr_of (out-Branch x).condition) ++ in_block (block_of (out-Branch x).block)) (λ s x. s)
-branches_walk scope = record { none = λ s. refl; some = λ s x more. refl }
+  pub branches_walk : IsWalk (λ (s : Alone) (xs : List Branch). in_branches meant (branches_of xs)) (λ s x. in_expr meant (expr_of (out-Branch x).condition) ++ in_block meant (block_of (out-Branch x).block)) (λ s x. s)
+  branches_walk = record { none = λ s. refl; some = λ s x more. refl }
+
+  pub variants_walk : IsWalk (λ (s : Alone) (xs : List Variant). in_variants meant (map variant_of xs)) (λ s x. when (is_special (variant_of x)) x.span ++ in_block meant (block_of x.block)) (λ s x. s)
+  variants_walk = record { none = λ s. refl; some = λ s x more. refl }
+
+  pub members_walk : IsWalk (λ (s : Alone) (xs : List Member). in_members meant (map member_of xs)) (λ s x. x.span ∷ in_member_kind meant (member_kind_of x.kind)) (λ s x. s)
+  members_walk = record { none = λ s. refl; some = λ s x more. refl }
+
+  pub decls_walk : IsWalk (λ (s : Alone) (xs : List Decl). in_decls meant (map decl_of xs)) (λ s x. in_decl meant (decl_of x)) (λ s x. s)
+  decls_walk = record { none = λ s. refl; some = λ s x more. refl }
 
 pub generics_walk : IsWalk (λ (s : Alone) (xs : List TypeParam). in_generics xs) (λ s x. in_uses x.bounds) (λ s x. s)
 generics_walk = record { none = λ s. refl; some = λ s x more. refl }
 
 pub params_walk : IsWalk (λ (s : Alone) (xs : List Param). in_params (map param_of xs)) (λ s x. x.span ∷ in_type (type_of x.written)) (λ s x. s)
 params_walk = record { none = λ s. refl; some = λ s x more. refl }
-
-pub variants_walk : IsWalk (λ (s : Alone) (xs : List Variant). in_variants (map variant_of xs)) (λ s x. when (is_there x.keyword) x.span ++ in_block (block_of x.block)) (λ s x. s)
-variants_walk = record { none = λ s. refl; some = λ s x more. refl }
-
-pub members_walk : IsWalk (λ (s : Alone) (xs : List Member). in_members (map member_of xs)) (λ s x. x.span ∷ in_member_kind (member_kind_of x.kind)) (λ s x. s)
-members_walk = record { none = λ s. refl; some = λ s x more. refl }
-
-pub decls_walk : IsWalk (λ (s : Bool) (xs : List Decl). in_decls s (map decl_of xs)) (λ s x. in_decl s (decl_of x)) (λ s x. s || is_main (decl_kind_of x.kind))
-decls_walk = record { none = λ s. refl; some = λ s x more. refl }
-
--- whether something is there
-pub there_is : {A : Type 0} (o : Option A) → is_some o ≡ is_there o
-there_is None = refl
-there_is (Some a) = refl
 
 -- lists of no or of several parts
 

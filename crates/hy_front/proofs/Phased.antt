@@ -9,9 +9,10 @@ use Rattle.hy_lexer.specs.Tokens as L
 use Rattle.hy_lexer.specs.declared.token.Token.{Token}
 use Rattle.hy_parser.specs.Grammar.{IsProgram}
 use Rattle.hy_parser.specs.Parses as P
+use Rattle.hy_tree.specs.Findings as N
 use Rattle.hy_tree.specs.Numbers.{number_program}
 use Rattle.hy_tree.specs.Tree as T
-use Rattle.hy_front.specs.Phases.{InPhases, longest, BreaksLength, BreaksGrammar, HasTree, BreaksForms, Breaks, IsTree}
+use Rattle.hy_front.specs.Phases.{InPhases, longest, BreaksLength, BreaksGrammar, HasTree, BreaksNames, BreaksForms, Breaks, IsTree}
 use Rattle.hy_front.specs.Unbuilt as X
 
 module _ (phase : Refusal → Type 0) (later : List (Refusal → Type 0)) where
@@ -38,7 +39,7 @@ too_long = record { rule = Z1; span = record { from = longest; to = longest } }
 
 module _ (bytes : List ℕ) where
   pub refused_length : longest < length bytes → IsFirst (Breaks bytes) (Some too_long)
-  refused_length long = in_this (BreaksLength bytes) (L.Breaks bytes ∷ BreaksGrammar bytes ∷ BreaksForms bytes ∷ []) too_long ((refl, long), λ g h p. subst (λ (g : Refusal). Precedes g too_long → ⊥) (sym h.0) (λ p. itself p) p)
+  refused_length long = in_this (BreaksLength bytes) (L.Breaks bytes ∷ BreaksGrammar bytes ∷ BreaksNames bytes ∷ BreaksForms bytes ∷ []) too_long ((refl, long), λ g h p. subst (λ (g : Refusal). Precedes g too_long → ⊥) (sym h.0) (λ p. itself p) p)
     where
       itself : Precedes too_long too_long → ⊥
       itself p = omega (arith, p)
@@ -49,15 +50,15 @@ module _ (bytes : List ℕ) where
 
     pub refused_lexically : (f : Refusal) → IsFirst (L.Breaks bytes) (Some f) → IsFirst (Breaks bytes) (Some f)
     refused_lexically f first =
-        in_later (BreaksLength bytes) (L.Breaks bytes ∷ BreaksGrammar bytes ∷ BreaksForms bytes ∷ []) (Some f) length_sound
-        (in_this (L.Breaks bytes) (BreaksGrammar bytes ∷ BreaksForms bytes ∷ []) f first)
+        in_later (BreaksLength bytes) (L.Breaks bytes ∷ BreaksGrammar bytes ∷ BreaksNames bytes ∷ BreaksForms bytes ∷ []) (Some f) length_sound
+        (in_this (L.Breaks bytes) (BreaksGrammar bytes ∷ BreaksNames bytes ∷ BreaksForms bytes ∷ []) f first)
 
     module _ (one_list : (bytes : List ℕ) (one other : List Token) → L.HasTokens bytes one → L.HasTokens bytes other → one ≡ other)
         (tokens : List Token) (lexed : IsFirst (L.Breaks bytes) None) (has : L.HasTokens bytes tokens) where
-      behind_lexer : (o : Option Refusal) → IsFirst (InPhases (BreaksGrammar bytes ∷ BreaksForms bytes ∷ [])) o → IsFirst (Breaks bytes) o
+      behind_lexer : (o : Option Refusal) → IsFirst (InPhases (BreaksGrammar bytes ∷ BreaksNames bytes ∷ BreaksForms bytes ∷ [])) o → IsFirst (Breaks bytes) o
       behind_lexer o first =
-          in_later (BreaksLength bytes) (L.Breaks bytes ∷ BreaksGrammar bytes ∷ BreaksForms bytes ∷ []) o length_sound
-          (in_later (L.Breaks bytes) (BreaksGrammar bytes ∷ BreaksForms bytes ∷ []) o lexed first)
+          in_later (BreaksLength bytes) (L.Breaks bytes ∷ BreaksGrammar bytes ∷ BreaksNames bytes ∷ BreaksForms bytes ∷ []) o length_sound
+          (in_later (L.Breaks bytes) (BreaksGrammar bytes ∷ BreaksNames bytes ∷ BreaksForms bytes ∷ []) o lexed first)
 
       grammar_as : (o : Option Refusal) → IsFirst (P.Breaks tokens (length bytes)) o → IsFirst (BreaksGrammar bytes) o
       grammar_as o first =
@@ -65,7 +66,7 @@ module _ (bytes : List ℕ) where
           (λ f h. subst (λ tokens. P.Breaks tokens (length bytes) f) (one_list bytes h.0 tokens h.1 has) h.2) first
 
       pub refused_by_grammar : (f : Refusal) → IsFirst (P.Breaks tokens (length bytes)) (Some f) → IsFirst (Breaks bytes) (Some f)
-      refused_by_grammar f first = behind_lexer (Some f) (in_this (BreaksGrammar bytes) (BreaksForms bytes ∷ []) f (grammar_as (Some f) first))
+      refused_by_grammar f first = behind_lexer (Some f) (in_this (BreaksGrammar bytes) (BreaksNames bytes ∷ BreaksForms bytes ∷ []) f (grammar_as (Some f) first))
 
       module _ (one_program : (tokens : List Token) (one other : T.Program) → IsProgram tokens one → IsProgram tokens other → one ≡ other)
           (tree : T.Program) (parsed : IsFirst (P.Breaks tokens (length bytes)) None) (is : P.HasTree tokens tree) where
@@ -74,10 +75,20 @@ module _ (bytes : List ℕ) where
             let read : P.HasTree tokens other = subst (λ tokens. P.HasTree tokens other) (one_list bytes h.0 tokens h.1 has) h.2 in
             read.2 ∙ ap number_program (one_program tokens read.0 is.0 read.1 is.1) ∙ sym is.2
 
-        pub by_forms : (o : Option Refusal) → IsFirst (X.Breaks tree) o → IsFirst (Breaks bytes) o
-        by_forms o first =
-            behind_lexer o (in_later (BreaksGrammar bytes) (BreaksForms bytes ∷ []) o (grammar_as None parsed)
-            (nothing_later o (BreaksForms bytes) (first_as (X.Breaks tree) (BreaksForms bytes) o (λ f h. (tree, (tokens, has, is), h)) (λ f h. subst (λ tree. X.Breaks tree f) (same_tree h.0 h.1) h.2) first)))
+        behind_grammar : (o : Option Refusal) → IsFirst (InPhases (BreaksNames bytes ∷ BreaksForms bytes ∷ [])) o → IsFirst (Breaks bytes) o
+        behind_grammar o first = behind_lexer o (in_later (BreaksGrammar bytes) (BreaksNames bytes ∷ BreaksForms bytes ∷ []) o (grammar_as None parsed) first)
+
+        -- what a phase says of the tree of the source
+        of_tree : (breaks : T.Program → Refusal → Type 0) (o : Option Refusal) → IsFirst (breaks tree) o → IsFirst (λ f. (tree : T.Program) × HasTree bytes tree × breaks tree f) o
+        of_tree breaks o first = first_as (breaks tree) (λ f. (tree : T.Program) × HasTree bytes tree × breaks tree f) o (λ f h. (tree, (tokens, has, is), h)) (λ f h. subst (λ tree. breaks tree f) (same_tree h.0 h.1) h.2) first
+
+        pub refused_by_names : (f : Refusal) → IsFirst (N.Breaks tree) (Some f) → IsFirst (Breaks bytes) (Some f)
+        refused_by_names f first = behind_grammar (Some f) (in_this (BreaksNames bytes) (BreaksForms bytes ∷ []) f (of_tree N.Breaks (Some f) first))
+
+        pub by_forms : IsFirst (N.Breaks tree) None → (o : Option Refusal) → IsFirst (X.Breaks tree) o → IsFirst (Breaks bytes) o
+        by_forms named o first =
+            behind_grammar o (in_later (BreaksNames bytes) (BreaksForms bytes ∷ []) o (of_tree N.Breaks None named)
+            (nothing_later o (BreaksForms bytes) (of_tree X.Breaks o first)))
 
 -- a source has one tree
 pub one_tree_of : ((bytes : List ℕ) (one other : List Token) → L.HasTokens bytes one → L.HasTokens bytes other → one ≡ other)
@@ -105,10 +116,20 @@ hands_on {T} {U} bytes Gives phase Had to fault (Err f) same h = by f (subst (λ
     by (Refused rule span) h = to (record { rule = rule; span = span }) h
     by NoMemory h = tt
 
--- in an accepted tree all forms are built
-pub all_built : (bytes : List ℕ) (tree : T.Program) → IsTree bytes tree → IsFirst (X.Breaks tree) None
-all_built bytes tree is f h =
-    let length_kept : IsFirst (BreaksLength bytes) None = λ g b. is.sound g (inl b) in
-    let lexed : IsFirst (L.Breaks bytes) None = λ g b. is.sound g (inr (length_kept, inl b)) in
-    let parsed : IsFirst (BreaksGrammar bytes) None = λ g b. is.sound g (inr (length_kept, inr (lexed, inl b))) in
-    is.sound f (inr (length_kept, inr (lexed, inr (parsed, inl (tree, is.read, h)))))
+-- the tree of a source that is accepted breaks no rule on names, and all its forms are built
+
+module _ (bytes : List ℕ) (tree : T.Program) (is : IsTree bytes tree) where
+  behind_the_grammar : (f : Refusal) → InPhases (BreaksNames bytes ∷ BreaksForms bytes ∷ []) f → ⊥
+  behind_the_grammar f h =
+      let length_kept : IsFirst (BreaksLength bytes) None = λ g b. is.sound g (inl b) in
+      let lexed : IsFirst (L.Breaks bytes) None = λ g b. is.sound g (inr (length_kept, inl b)) in
+      let parsed : IsFirst (BreaksGrammar bytes) None = λ g b. is.sound g (inr (length_kept, inr (lexed, inl b))) in
+      is.sound f (inr (length_kept, inr (lexed, inr (parsed, h))))
+
+  pub all_named : IsFirst (N.Breaks tree) None
+  all_named f h = behind_the_grammar f (inl (tree, is.read, h))
+
+  pub all_built : IsFirst (X.Breaks tree) None
+  all_built f h =
+      let named : IsFirst (BreaksNames bytes) None = λ g b. behind_the_grammar g (inl b) in
+      behind_the_grammar f (inr (named, inl (tree, is.read, h)))

@@ -1,6 +1,5 @@
 -- How far a walk over a list has come: what is met from here on, in the rest, is what is met in the whole.
-use Rattle.std.proofs.Common.{◌≡◌, ◌<◌, ◌≤◌, ℕ, suc, ◌+◌, List, [], ◌∷◌, ◌++◌, Option, length, get_or, drop, refl, sym, ap, subst, ◌∙◌, arith, drop-cons, Result, Ok, Err, IfOk}
-use Rattle.hy_base.specs.declared.refusal.NoMemory.{NoMemory}
+use Rattle.std.proofs.Common.{◌≡◌, ◌<◌, ◌≤◌, ℕ, suc, ◌+◌, List, [], ◌∷◌, ◌++◌, Option, length, get_or, drop, refl, sym, ap, subst, ◌∙◌, arith, drop-cons}
 use Rattle.std.proofs.lemmas.List.{drop_all}
 use Rattle.hy_base.specs.declared.position.Span.{Span}
 use Rattle.hy_front.specs.Noted.{sooner, after}
@@ -51,16 +50,3 @@ met_as find x y old new e h = h ∙ ap (λ z. after (find z) old) (sym e)
 -- one place, and then a part
 pub then_met : (span : Span) (xs : List Span) (a m c : Option Span) → m ≡ sooner a span → c ≡ after xs m → c ≡ after (span ∷ xs) a
 then_met span xs a m c h k = k ∙ ap (after xs) h
-
--- the same of a call that may want memory
-
-pub met_behind : (r : Result (Option Span) NoMemory) (xs ys : List Span) (a b : Option Span) → b ≡ after xs a → IfOk r (λ c. c ≡ after ys b) → IfOk r (λ c. c ≡ after (xs ++ ys) a)
-met_behind (Ok c) xs ys a b h k = then xs ys a b c h k
-met_behind (Err failure) xs ys a b h k = k
-
-pub met_behind_one : (r : Result (Option Span) NoMemory) (span : Span) (xs : List Span) (a b : Option Span) → b ≡ sooner a span → IfOk r (λ c. c ≡ after xs b) → IfOk r (λ c. c ≡ after (span ∷ xs) a)
-met_behind_one (Ok c) span xs a b h k = then_met span xs a b c h k
-met_behind_one (Err failure) span xs a b h k = k
-
-pub met_in : {X : Type 0} (find : X → List Span) (r : Result (Option Span) NoMemory) (x y : X) (a : Option Span) → x ≡ y → IfOk r (λ c. c ≡ after (find y) a) → IfOk r (λ c. c ≡ after (find x) a)
-met_in find r x y a e k = subst (λ z. IfOk r (λ c. c ≡ after (find z) a)) (sym e) k

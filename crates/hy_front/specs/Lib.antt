@@ -1,5 +1,4 @@
 pub mod Noted
 pub mod Phases
 pub mod Rows
-pub mod Scopes
 pub mod Unbuilt

@@ -5,6 +5,7 @@ use Rattle.hy_base.specs.declared.refusal.Rule.TheVariants.{Z1}
 use Rattle.hy_lexer.specs.Tokens as L
 use Rattle.hy_lexer.specs.declared.token.Token.{Token}
 use Rattle.hy_parser.specs.Parses as P
+use Rattle.hy_tree.specs.Findings as N
 use Rattle.hy_tree.specs.Tree as T
 use Rattle.hy_front.specs.Unbuilt as X
 
@@ -29,13 +30,17 @@ BreaksGrammar bytes f = (tokens : List Token) × L.HasTokens bytes tokens × P.B
 abbrev pub HasTree : List ℕ → T.Program → Type 0
 HasTree bytes tree = (tokens : List Token) × L.HasTokens bytes tokens × P.HasTree tokens tree
 
+-- A rule on names is broken in its tree.
+abbrev pub BreaksNames : List ℕ → Refusal → Type 0
+BreaksNames bytes f = (tree : T.Program) × HasTree bytes tree × N.Breaks tree f
+
 -- A form of its tree is not built.
 abbrev pub BreaksForms : List ℕ → Refusal → Type 0
 BreaksForms bytes f = (tree : T.Program) × HasTree bytes tree × X.Breaks tree f
 
--- The phases are Z, L, P and X.
+-- The phases are Z, L, P, N and X.
 abbrev pub Breaks : List ℕ → Refusal → Type 0
-Breaks bytes = InPhases (BreaksLength bytes ∷ L.Breaks bytes ∷ BreaksGrammar bytes ∷ BreaksForms bytes ∷ [])
+Breaks bytes = InPhases (BreaksLength bytes ∷ L.Breaks bytes ∷ BreaksGrammar bytes ∷ BreaksNames bytes ∷ BreaksForms bytes ∷ [])
 
 -- The source breaks no rule, and this is its tree.
 pub record IsTree (bytes : List ℕ) (tree : T.Program) : Type 0 where

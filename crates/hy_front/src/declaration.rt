@@ -1,21 +1,20 @@
 // Declarations.
-ghost use Rattle.std.specs.Prelude.{◌≡◌, IfOk, map, false, None};
+ghost use Rattle.std.specs.Prelude.{◌≡◌, map, None};
 ghost use Rattle.hy_tree.specs.Denotes.{callable_of, conform_of, decl_kind_of, decl_of, member_kind_of, member_of, param_of, product_of, program_of, trait_of, variant_of};
-ghost use Rattle.hy_tree.specs.Findings.{is_main as is_the_main, has_main as has_the_main};
+ghost use Rattle.hy_tree.specs.Findings.{is_main as is_the_main};
 ghost use Rattle.hy_tree.specs.Tree.{DeclProduct, DeclTrait, DeclConform};
 ghost use Rattle.hy_front.specs.Noted.{after};
 ghost use Rattle.hy_front.specs.Unbuilt.{in_uses, in_generics, in_params, in_variants, in_callable, in_member_kind, in_members, in_decl_kind, in_decl, in_decls, unbuilt};
 
-use crate::forms::is_main;
+use crate::forms::{is_main, is_special};
 use crate::least::{meet, meet_when};
 use crate::statement::look_at_block;
 use crate::written::{look_at_type, look_at_written};
-use hy_base::{NoMemory, Span};
+use hy_base::Span;
 use hy_tree::{
-    Callable, Conform, Decl, DeclKind, Member, MemberKind, NameUse, Param, Product, Program,
+    Callable, Conform, Decl, DeclKind, Meant, Member, MemberKind, NameUse, Param, Product, Program,
     TraitDef, TypeParam, Variant,
 };
-use std::alloc::Global;
 
 /// Looks at names of traits.
 fn look_at_uses(first: Option<Span>, names: &[NameUse]) -> Option<Span>
@@ -48,112 +47,78 @@ fn look_at_params(first: Option<Span>, params: &[Param]) -> Option<Span>
     first
 }
 
-fn look_at_variants(
-    alloc: Global,
-    first: Option<Span>,
-    variants: &[Variant],
-) -> Result<Option<Span>, NoMemory>
-    ensures { IfOk result (λ met. met ≡ after (in_variants (map variant_of variants.now)) first) }
+fn look_at_variants(first: Option<Span>, meant: &[Meant], variants: &[Variant]) -> Option<Span>
+    ensures { result ≡ after (in_variants meant.now (map variant_of variants.now)) first }
 {
     let mut first = first;
     for v in variants {
-        first = meet_when(first, v.keyword.is_some(), v.span);
-        first = look_at_block(alloc, first, &v.block)?;
+        first = meet_when(first, is_special(v), v.span);
+        first = look_at_block(first, meant, &v.block);
     }
-    Ok(first)
+    first
 }
 
 /// Looks at what can be called, where `main` says that it is `fun main()`.
-fn look_at_callable(
-    alloc: Global,
-    first: Option<Span>,
-    main: bool,
-    c: &Callable,
-) -> Result<Option<Span>, NoMemory>
-    ensures { IfOk result (λ met. met ≡ after (in_callable main (callable_of c.now)) first) }
+fn look_at_callable(first: Option<Span>, meant: &[Meant], main: bool, c: &Callable) -> Option<Span>
+    ensures { result ≡ after (in_callable meant.now main (callable_of c.now)) first }
 {
     let first = meet_when(first, !main, c.span);
     let first = look_at_generics(first, c.generics.as_slice());
     let first = look_at_params(first, c.params.as_slice());
     let first = look_at_written(first, &c.result);
-    look_at_variants(alloc, first, c.variants.as_slice())
+    look_at_variants(first, meant, c.variants.as_slice())
 }
 
-fn look_at_member_kind(
-    alloc: Global,
-    first: Option<Span>,
-    member: &MemberKind,
-) -> Result<Option<Span>, NoMemory>
-    ensures { IfOk result (λ met. met ≡ after (in_member_kind (member_kind_of member.now)) first) }
+fn look_at_member_kind(first: Option<Span>, meant: &[Meant], member: &MemberKind) -> Option<Span>
+    ensures { result ≡ after (in_member_kind meant.now (member_kind_of member.now)) first }
 {
     match member {
-        MemberKind::Field(_, written) => Ok(look_at_type(first, written)),
-        MemberKind::MemberwiseInit => Ok(first),
-        MemberKind::Callable(c) => look_at_callable(alloc, first, false, c),
+        MemberKind::Field(_, written) => look_at_type(first, written),
+        MemberKind::MemberwiseInit => first,
+        MemberKind::Callable(c) => look_at_callable(first, meant, false, c),
     }
 }
 
-fn look_at_members(
-    alloc: Global,
-    first: Option<Span>,
-    members: &[Member],
-) -> Result<Option<Span>, NoMemory>
-    ensures { IfOk result (λ met. met ≡ after (in_members (map member_of members.now)) first) }
+fn look_at_members(first: Option<Span>, meant: &[Meant], members: &[Member]) -> Option<Span>
+    ensures { result ≡ after (in_members meant.now (map member_of members.now)) first }
 {
     let mut first = first;
     for member in members {
-        first = look_at_member_kind(alloc, meet(first, member.span), &member.kind)?;
+        first = look_at_member_kind(meet(first, member.span), meant, &member.kind);
     }
-    Ok(first)
+    first
 }
 
-fn look_at_product(
-    alloc: Global,
-    first: Option<Span>,
-    p: &Product,
-) -> Result<Option<Span>, NoMemory>
-    ensures { IfOk result (λ met. met ≡ after (in_decl_kind false (DeclProduct (product_of p.now))) first) }
+fn look_at_product(first: Option<Span>, meant: &[Meant], p: &Product) -> Option<Span>
+    ensures { result ≡ after (in_decl_kind meant.now (DeclProduct (product_of p.now))) first }
 {
     let first = look_at_uses(meet(first, p.span), p.traits.as_slice());
-    look_at_members(alloc, first, p.members.as_slice())
+    look_at_members(first, meant, p.members.as_slice())
 }
 
-fn look_at_trait(alloc: Global, first: Option<Span>, t: &TraitDef) -> Result<Option<Span>, NoMemory>
-    ensures { IfOk result (λ met. met ≡ after (in_decl_kind false (DeclTrait (trait_of t.now))) first) }
+fn look_at_trait(first: Option<Span>, meant: &[Meant], t: &TraitDef) -> Option<Span>
+    ensures { result ≡ after (in_decl_kind meant.now (DeclTrait (trait_of t.now))) first }
 {
-    look_at_members(alloc, meet(first, t.span), t.members.as_slice())
+    look_at_members(meet(first, t.span), meant, t.members.as_slice())
 }
 
-fn look_at_conform(
-    alloc: Global,
-    first: Option<Span>,
-    c: &Conform,
-) -> Result<Option<Span>, NoMemory>
-    ensures { IfOk result (λ met. met ≡ after (in_decl_kind false (DeclConform (conform_of c.now))) first) }
+fn look_at_conform(first: Option<Span>, meant: &[Meant], c: &Conform) -> Option<Span>
+    ensures { result ≡ after (in_decl_kind meant.now (DeclConform (conform_of c.now))) first }
 {
     let first = meet(meet(first, c.span), c.target.span);
     let first = look_at_uses(first, c.traits.as_slice());
-    look_at_members(alloc, first, c.members.as_slice())
+    look_at_members(first, meant, c.members.as_slice())
 }
 
-/// Looks at what is declared, where `before` says whether `fun main()` stands before.
-fn look_at_decl_kind(
-    alloc: Global,
-    first: Option<Span>,
-    before: bool,
-    decl: &DeclKind,
-) -> Result<Option<Span>, NoMemory>
-    ensures { IfOk result (λ met. met ≡ after (in_decl_kind before (decl_kind_of decl.now)) first) }
+/// Looks at what is declared.
+fn look_at_decl_kind(first: Option<Span>, meant: &[Meant], decl: &DeclKind) -> Option<Span>
+    ensures { result ≡ after (in_decl_kind meant.now (decl_kind_of decl.now)) first }
 {
     match decl {
-        DeclKind::Callable(c) => {
-            let main = is_main(c);
-            let first = meet_when(first, before && main, c.name_span());
-            look_at_callable(alloc, first, main, c)
-        }
-        DeclKind::Product(p) => look_at_product(alloc, first, p),
-        DeclKind::Trait(t) => look_at_trait(alloc, first, t),
-        DeclKind::Conformance(c) => look_at_conform(alloc, first, c),
+        DeclKind::Callable(c) => look_at_callable(first, meant, is_main(c), c),
+        DeclKind::Product(p) => look_at_product(first, meant, p),
+        DeclKind::Trait(t) => look_at_trait(first, meant, t),
+        DeclKind::Conformance(c) => look_at_conform(first, meant, c),
     }
 }
 
@@ -170,52 +135,28 @@ fn declares_main(decl: &DeclKind) -> bool
 }
 
 /// Looks at a declaration.
-fn look_at_decl(
-    alloc: Global,
-    first: Option<Span>,
-    before: bool,
-    decl: &Decl,
-) -> Result<Option<Span>, NoMemory>
-    ensures { IfOk result (λ met. met ≡ after (in_decl before (decl_of decl.now)) first) }
+fn look_at_decl(first: Option<Span>, meant: &[Meant], decl: &Decl) -> Option<Span>
+    ensures { result ≡ after (in_decl meant.now (decl_of decl.now)) first }
 {
     let first = meet_when(first, decl.public || !declares_main(&decl.kind), decl.span);
-    look_at_decl_kind(alloc, first, before, &decl.kind)
+    look_at_decl_kind(first, meant, &decl.kind)
 }
 
 /// Looks at the declarations of a file.
-fn look_at_decls(
-    alloc: Global,
-    first: Option<Span>,
-    decls: &[Decl],
-) -> Result<Option<Span>, NoMemory>
-    ensures { IfOk result (λ met. met ≡ after (in_decls false (map decl_of decls.now)) first) }
+fn look_at_decls(first: Option<Span>, meant: &[Meant], decls: &[Decl]) -> Option<Span>
+    ensures { result ≡ after (in_decls meant.now (map decl_of decls.now)) first }
 {
     let mut first = first;
-    let mut before = false;
     for decl in decls {
-        first = look_at_decl(alloc, first, before, decl)?;
-        before |= declares_main(&decl.kind);
+        first = look_at_decl(first, meant, decl);
     }
-    Ok(first)
+    first
 }
 
-/// Whether `fun main()` is there.
-fn has_main(decls: &[Decl]) -> bool
-    ensures { result ≡ has_the_main (map decl_of decls.now) }
+/// The first place of a tree where a form is not built, or none where all are built. `meant` has what names stand for, by the
+/// number of the node that uses the name.
+pub fn first_unbuilt(tree: &Program, meant: &[Meant]) -> Option<Span>
+    ensures { result ≡ after (unbuilt meant.now (program_of tree.now)) None }
 {
-    for decl in decls {
-        if declares_main(&decl.kind) {
-            return true;
-        }
-    }
-    false
-}
-
-/// The first place of a tree where a form is not built, or none where all are built.
-pub fn first_unbuilt(alloc: Global, tree: &Program) -> Result<Option<Span>, NoMemory>
-    ensures { IfOk result (λ met. met ≡ after (unbuilt (program_of tree.now)) None) }
-{
-    let decls = tree.decls.as_slice();
-    let first = meet_when(None, !has_main(decls), Span { from: 0, to: 0 });
-    look_at_decls(alloc, first, decls)
+    look_at_decls(None, meant, tree.decls.as_slice())
 }

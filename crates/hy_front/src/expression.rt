@@ -4,12 +4,11 @@ ghost use Rattle.hy_tree.specs.Denotes.{expr_of, exprs_of, link_of, links_of, st
 ghost use Rattle.hy_front.specs.Noted.{after};
 ghost use Rattle.hy_front.specs.Unbuilt.{in_operand, in_expr, in_exprs, in_link, in_links, in_step, in_steps, in_args, in_choices};
 
-use crate::forms::is_plus;
+use crate::forms::{is_callee, is_plus, is_variable};
 use crate::least::{meet, meet_when};
-use crate::scope::Scope;
 use crate::written::look_at_type;
 use hy_base::Span;
-use hy_tree::{Arg, Choice, Expr, ExprKind, Link, Step, StepKind};
+use hy_tree::{Arg, Choice, Expr, ExprKind, Link, Meant, Step, StepKind};
 
 /// An operand is no sum.
 #[tactic(auto, using(hy_tree::proofs::Equations::expr_variants))]
@@ -32,118 +31,121 @@ fn look_at_operand(first: Option<Span>, e: &Expr) -> Option<Span>
     }
 }
 
-/// Looks at an expression.
+/// Looks at an expression, where `meant` has what names stand for.
 #[cycle(expression)]
 #[tactic(auto, using(hy_tree::proofs::Equations::expr_variants))]
-pub fn look_at_expr(first: Option<Span>, scope: &Scope, e: &Expr) -> Option<Span>
-    ensures { result ≡ after (in_expr scope.now (expr_of e.now)) first }
+pub fn look_at_expr(first: Option<Span>, meant: &[Meant], e: &Expr) -> Option<Span>
+    ensures { result ≡ after (in_expr meant.now (expr_of e.now)) first }
 {
     match &e.kind {
         ExprKind::Chain(operand, links) => {
             let operand = operand.get();
             let first = look_at_operand(first, operand);
-            let first = look_at_expr(first, scope, operand);
-            look_at_links(first, scope, links.as_slice())
+            let first = look_at_expr(first, meant, operand);
+            look_at_links(first, meant, links.as_slice())
         }
-        ExprKind::Unary(_, operand) => look_at_expr(meet(first, e.span), scope, operand.get()),
-        ExprKind::Marked(operand) => look_at_expr(meet(first, e.span), scope, operand.get()),
+        ExprKind::Unary(_, operand) => look_at_expr(meet(first, e.span), meant, operand.get()),
+        ExprKind::Marked(operand) => look_at_expr(meet(first, e.span), meant, operand.get()),
         ExprKind::Postfix(primary, steps) => {
-            let first = look_at_expr(meet(first, e.span), scope, primary.get());
-            look_at_steps(first, scope, steps.as_slice())
+            let called = is_callee(primary.get(), steps.as_slice());
+            let first = meet(first, e.span);
+            let first = if called {
+                first
+            } else {
+                look_at_expr(first, meant, primary.get())
+            };
+            look_at_steps(first, meant, steps.as_slice())
         }
         ExprKind::Number(_) => first,
         ExprKind::Bool(_) => meet(first, e.span),
-        ExprKind::Name(name) => {
-            let known = scope.knows(name.text.as_slice());
-            meet_when(first, !known, name.span)
-        }
+        ExprKind::Name(name) => { meet_when(first, !is_variable(meant, e.node), name.span) }
         ExprKind::SelfValue(_) => meet(first, e.span),
         ExprKind::EmptyArray(element) => look_at_type(meet(first, e.span), element),
-        ExprKind::Tuple(parts) => look_at_exprs(meet(first, e.span), scope, parts.as_slice()),
-        ExprKind::Array(elements) => look_at_exprs(meet(first, e.span), scope, elements.as_slice()),
+        ExprKind::Tuple(parts) => look_at_exprs(meet(first, e.span), meant, parts.as_slice()),
+        ExprKind::Array(elements) => look_at_exprs(meet(first, e.span), meant, elements.as_slice()),
         ExprKind::If(choices, otherwise) => {
-            let first = look_at_choices(meet(first, e.span), scope, choices.as_slice());
-            look_at_expr(first, scope, otherwise.get())
+            let first = look_at_choices(meet(first, e.span), meant, choices.as_slice());
+            look_at_expr(first, meant, otherwise.get())
         }
     }
 }
 
 #[cycle(expression)]
-fn look_at_exprs(first: Option<Span>, scope: &Scope, parts: &[Expr]) -> Option<Span>
-    ensures { result ≡ after (in_exprs scope.now (exprs_of parts.now)) first }
+fn look_at_exprs(first: Option<Span>, meant: &[Meant], parts: &[Expr]) -> Option<Span>
+    ensures { result ≡ after (in_exprs meant.now (exprs_of parts.now)) first }
 {
     let mut first = first;
     for part in parts {
-        first = look_at_expr(first, scope, part);
+        first = look_at_expr(first, meant, part);
     }
     first
 }
 
 /// Looks at an operator with its right operand.
 #[cycle(expression)]
-fn look_at_link(first: Option<Span>, scope: &Scope, link: &Link) -> Option<Span>
-    ensures { result ≡ after (in_link scope.now (link_of link.now)) first }
+fn look_at_link(first: Option<Span>, meant: &[Meant], link: &Link) -> Option<Span>
+    ensures { result ≡ after (in_link meant.now (link_of link.now)) first }
 {
     let first = meet_when(first, !is_plus(link.operator), link.span);
     let first = look_at_operand(first, &link.operand);
-    look_at_expr(first, scope, &link.operand)
+    look_at_expr(first, meant, &link.operand)
 }
 
 #[cycle(expression)]
-fn look_at_links(first: Option<Span>, scope: &Scope, links: &[Link]) -> Option<Span>
-    ensures { result ≡ after (in_links scope.now (links_of links.now)) first }
+fn look_at_links(first: Option<Span>, meant: &[Meant], links: &[Link]) -> Option<Span>
+    ensures { result ≡ after (in_links meant.now (links_of links.now)) first }
 {
     let mut first = first;
     for link in links {
-        first = look_at_link(first, scope, link);
+        first = look_at_link(first, meant, link);
     }
     first
 }
 
 #[cycle(expression)]
 #[tactic(auto, using(hy_tree::proofs::Equations::step_variants))]
-fn look_at_step(first: Option<Span>, scope: &Scope, step: &Step) -> Option<Span>
-    ensures { result ≡ after (in_step scope.now (step_of step.now)) first }
+fn look_at_step(first: Option<Span>, meant: &[Meant], step: &Step) -> Option<Span>
+    ensures { result ≡ after (in_step meant.now (step_of step.now)) first }
 {
     let first = meet(first, step.span);
     match &step.kind {
         StepKind::Member(_) => first,
         StepKind::Part(_) => first,
-        StepKind::Call(args) => look_at_args(first, scope, args.as_slice()),
-        StepKind::Index(args) => look_at_args(first, scope, args.as_slice()),
+        StepKind::Call(args) => look_at_args(first, meant, args.as_slice()),
+        StepKind::Index(args) => look_at_args(first, meant, args.as_slice()),
     }
 }
 
 #[cycle(expression)]
-fn look_at_steps(first: Option<Span>, scope: &Scope, steps: &[Step]) -> Option<Span>
-    ensures { result ≡ after (in_steps scope.now (steps_of steps.now)) first }
+fn look_at_steps(first: Option<Span>, meant: &[Meant], steps: &[Step]) -> Option<Span>
+    ensures { result ≡ after (in_steps meant.now (steps_of steps.now)) first }
 {
     let mut first = first;
     for step in steps {
-        first = look_at_step(first, scope, step);
+        first = look_at_step(first, meant, step);
     }
     first
 }
 
 #[cycle(expression)]
-fn look_at_args(first: Option<Span>, scope: &Scope, args: &[Arg]) -> Option<Span>
-    ensures { result ≡ after (in_args scope.now (args_of args.now)) first }
+fn look_at_args(first: Option<Span>, meant: &[Meant], args: &[Arg]) -> Option<Span>
+    ensures { result ≡ after (in_args meant.now (args_of args.now)) first }
 {
     let mut first = first;
     for arg in args {
-        first = look_at_expr(first, scope, &arg.value);
+        first = look_at_expr(first, meant, &arg.value);
     }
     first
 }
 
 #[cycle(expression)]
-fn look_at_choices(first: Option<Span>, scope: &Scope, choices: &[Choice]) -> Option<Span>
-    ensures { result ≡ after (in_choices scope.now (choices_of choices.now)) first }
+fn look_at_choices(first: Option<Span>, meant: &[Meant], choices: &[Choice]) -> Option<Span>
+    ensures { result ≡ after (in_choices meant.now (choices_of choices.now)) first }
 {
     let mut first = first;
     for choice in choices {
-        first = look_at_expr(first, scope, &choice.condition);
-        first = look_at_expr(first, scope, &choice.value);
+        first = look_at_expr(first, meant, &choice.condition);
+        first = look_at_expr(first, meant, &choice.value);
     }
     first
 }

@@ -1,16 +1,15 @@
 // Which forms are built.
 ghost use Rattle.std.specs.Prelude.{◌≡◌, false};
 ghost use Rattle.std.specs.Option.{option_map, option_copied};
-ghost use Rattle.hy_tree.specs.Denotes.{expr_of, args_of, step_of, steps_of, callable_of, type_of};
-ghost use Rattle.hy_tree.specs.FileNames.{is_reserved as reserves};
+ghost use Rattle.hy_tree.specs.Denotes.{expr_of, args_of, step_of, steps_of, callable_of, variant_of, type_of};
 ghost use Rattle.hy_tree.specs.Findings.{is_main as is_the_main, is_function as is_the_function};
 ghost use Rattle.hy_tree.specs.Tree.{DeclCallable};
 ghost use Rattle.hy_meaning.specs.Forms.{is_print as is_the_print, only_value as the_value, only_call as the_call, call_value as the_call_value, printed as is_printed};
-ghost use Rattle.hy_front.specs.Unbuilt.{is_plus as adds, is_place as is_a_place, is_place_step as is_a_place_step, is_name as is_a_name, ends_in_place as ends, is_plain as is_a_plain};
+ghost use Rattle.hy_front.specs.Unbuilt.{is_plus as adds, is_place as is_a_place, is_place_step as is_a_place_step, is_name as is_a_name, ends_in_place as ends, is_plain as is_a_plain, is_application as is_an_application, has_arguments as has_some_arguments, is_callee as is_a_callee, is_variable as is_a_variable, is_special as is_a_special};
 
 use hy_tree::{
-    Arg, Arithmetic, Callable, CallableKind, Expr, ExprKind, Introducer, Operator, Step, StepKind,
-    TypeExp,
+    Arg, Arithmetic, Callable, CallableKind, Expr, ExprKind, Introducer, Meant, Operator, Step,
+    StepKind, TypeExp, Variant,
 };
 
 /// Whether it is the name `print`.
@@ -173,6 +172,53 @@ pub fn is_name(e: &Expr) -> bool
     }
 }
 
+/// Whether the step is `(..)` or `[..]`.
+#[tactic(auto, using(hy_tree::proofs::Equations::step_variants))]
+fn is_application(step: &Step) -> bool
+    ensures { result ≡ is_an_application (step_of step.now) }
+{
+    match &step.kind {
+        StepKind::Call(_) => true,
+        StepKind::Index(_) => true,
+        StepKind::Member(_) => false,
+        StepKind::Part(_) => false,
+    }
+}
+
+/// Whether arguments stand first among the steps.
+fn has_arguments(steps: &[Step]) -> bool
+    ensures { result ≡ has_some_arguments (steps_of steps.now) }
+{
+    match steps.first() {
+        Some(step) => is_application(step),
+        None => false,
+    }
+}
+
+/// Whether an expression with these steps behind it is a name that is called, which is no value.
+pub fn is_callee(primary: &Expr, steps: &[Step]) -> bool
+    ensures { result ≡ is_a_callee (expr_of primary.now) (steps_of steps.now) }
+{
+    is_name(primary) && has_arguments(steps)
+}
+
+/// Whether the name at a node stands for a variable.
+pub fn is_variable(meant: &[Meant], node: u32) -> bool
+    ensures { result ≡ is_a_variable meant.now node }
+{
+    match meant.get(node as usize) {
+        Some(Meant::Local(_)) => true,
+        _ => false,
+    }
+}
+
+/// Whether a variant has a keyword or a new value.
+pub fn is_special(variant: &Variant) -> bool
+    ensures { result ≡ is_a_special (variant_of variant.now) }
+{
+    variant.keyword.is_some() || variant.value.is_some()
+}
+
 /// Whether it is `var` without a written type.
 pub fn is_plain(introducer: Introducer, written: &Option<TypeExp>) -> bool
     ensures { result ≡ is_a_plain introducer (option_map type_of written.now) }
@@ -183,20 +229,6 @@ pub fn is_plain(introducer: Introducer, written: &Option<TypeExp>) -> bool
         (Introducer::Let, _) => false,
         (Introducer::Inout, _) => false,
     }
-}
-
-/// Whether a name is one that no declaration may have.
-pub fn is_reserved(name: &[u8]) -> bool
-    ensures { result ≡ reserves name.now }
-{
-    name == b"print".as_slice()
-        || name == b"read".as_slice()
-        || name == b"precondition".as_slice()
-        || name == b"Int".as_slice()
-        || name == b"Bool".as_slice()
-        || name == b"Copyable".as_slice()
-        || name == b"Movable".as_slice()
-        || name == b"Deinitializable".as_slice()
 }
 
 fn is_function(kind: CallableKind) -> bool

@@ -2,25 +2,28 @@
 ghost use Rattle.std.specs.Prelude.{◌≡◌, List, ℕ};
 ghost use Rattle.hy_base.specs.Answers.{Answers};
 ghost use Rattle.hy_tree.specs.Denotes.{program_of};
+ghost use Rattle.hy_tree.specs.Findings.{meanings};
 ghost use Rattle.hy_tree.specs.Tree.{Program as Tree};
-ghost use Rattle.hy_front.specs.Phases.{Breaks, BreaksForms, IsTree, HasTree};
+ghost use Rattle.hy_front.specs.Phases.{Breaks, IsTree};
 ghost use Rattle.hy_front.specs.Unbuilt.{Breaks as BreaksForm};
 
 use crate::declaration::first_unbuilt;
 use hy_base::{Fault, Rule, Span};
 use hy_lexer::{lex, one_list_of_tokens, spans_are_apart};
 use hy_parser::{one_program, parse};
-use hy_tree::Program;
+use hy_scope::resolve;
+use hy_tree::{Meant, Program};
 use std::alloc::Global;
 
 /// The longest source, in bytes.
 pub const LONGEST: u32 = 1_048_576;
 
-/// Accepts a tree whose forms are all built.
-fn accept(alloc: Global, tree: Program) -> Result<Program, Fault>
+/// Accepts a tree whose forms are all built, where `meant` has what its names stand for.
+fn accept(tree: Program, meant: &[Meant]) -> Result<Program, Fault>
+    requires { meant.now ≡ meanings (program_of tree) }
     ensures { Answers (BreaksForm (program_of tree)) (λ accepted. program_of accepted ≡ program_of tree) result }
 {
-    match first_unbuilt(alloc, &tree)? {
+    match first_unbuilt(&tree, meant) {
         Some(span) => Err(Fault::Refused(Rule::X1, span)),
         None => Ok(tree),
     }
@@ -43,7 +46,8 @@ pub fn front(alloc: Global, bytes: &[u8]) -> Result<Program, Fault>
     }
     let tokens = lex(alloc, bytes)?;
     let tree = parse(alloc, &tokens, bytes.len() as u32)?;
-    accept(alloc, tree)
+    let resolved = resolve(alloc, &tree)?;
+    accept(tree, resolved.meant.as_slice())
 }
 
 /// A source has at most one tree.

@@ -8,7 +8,8 @@ mod forms;
 mod fronted;
 mod laws;
 mod least;
-mod scope;
+#[cfg(test)]
+mod names_rows;
 mod statement;
 #[cfg(test)]
 mod tests;
@@ -17,4 +18,3 @@ mod written;
 pub use forms::printed;
 pub use fronted::{LONGEST, front, one_tree};
 pub use laws::rows;
-pub use scope::Scope;

@@ -1,180 +1,133 @@
 // Statements.
-ghost use Rattle.std.specs.Prelude.{◌≡◌, IfOk, OnOk};
+ghost use Rattle.std.specs.Prelude.{◌≡◌};
 ghost use Rattle.std.specs.Option.{option_map};
 ghost use Rattle.hy_tree.specs.Denotes.{expr_of, stmt_of, block_of, branches_of, else_of, placed};
 ghost use Rattle.hy_front.specs.Noted.{after};
-ghost use Rattle.hy_front.specs.Unbuilt.{in_declared, in_value, in_bound, in_printed, in_returned, in_stmt, in_block, in_branches, in_otherwise, behind, with_name};
+ghost use Rattle.hy_front.specs.Unbuilt.{in_value, in_bound, in_printed, in_returned, in_stmt, in_block, in_branches, in_otherwise};
 ghost use Rattle.hy_meaning.specs.Forms.{printed as is_printed};
 
 use crate::expression::look_at_expr;
-use crate::forms::{is_name, is_place, is_plain, is_reserved, printed};
+use crate::forms::{is_name, is_place, is_plain, printed};
 use crate::least::{meet, meet_when};
-use crate::scope::Scope;
 use crate::written::{look_at_type, look_at_written};
-use hy_base::{NoMemory, Span};
-use hy_tree::{Block, Branch, Expr, Introducer, Name, Stmt, StmtKind};
-use std::alloc::Global;
-
-/// Looks at a name that is declared, and puts it into the scope.
-fn declare(
-    alloc: Global,
-    first: Option<Span>,
-    scope: &mut Scope,
-    name: &Name,
-) -> Result<Option<Span>, NoMemory>
-    ensures met { IfOk result (λ met. met ≡ after (in_declared scope.old name.now) first) }
-    ensures scope { OnOk result (scope.new ≡ with_name scope.old name.now.text) }
-{
-    let text = name.text.as_slice();
-    let refused = scope.knows(text) || is_reserved(text);
-    scope.declare(alloc, text)?;
-    Ok(meet_when(first, refused, name.span))
-}
+use hy_base::Span;
+use hy_tree::{Block, Branch, Expr, Introducer, Meant, Stmt, StmtKind};
 
 /// Looks at the value of `var` or `=`.
-fn look_at_value(first: Option<Span>, scope: &Scope, value: &Expr) -> Option<Span>
-    ensures { result ≡ after (in_value scope.now (expr_of value.now)) first }
+fn look_at_value(first: Option<Span>, meant: &[Meant], value: &Expr) -> Option<Span>
+    ensures { result ≡ after (in_value meant.now (expr_of value.now)) first }
 {
     let first = meet_when(first, is_place(value), value.span);
-    look_at_expr(first, scope, value)
+    look_at_expr(first, meant, value)
 }
 
 /// Looks at the value that a name is bound to.
 fn look_at_bound(
     first: Option<Span>,
-    scope: &Scope,
+    meant: &[Meant],
     introducer: Introducer,
     value: &Expr,
 ) -> Option<Span>
-    ensures { result ≡ after (in_bound scope.now introducer (expr_of value.now)) first }
+    ensures { result ≡ after (in_bound meant.now introducer (expr_of value.now)) first }
 {
     match introducer {
-        Introducer::Var => look_at_value(first, scope, value),
-        Introducer::Let => look_at_expr(first, scope, value),
-        Introducer::Inout => look_at_expr(first, scope, value),
+        Introducer::Var => look_at_value(first, meant, value),
+        Introducer::Let => look_at_expr(first, meant, value),
+        Introducer::Inout => look_at_expr(first, meant, value),
     }
 }
 
 /// Looks at an expression that is a statement with this span.
-fn look_at_evaluated(first: Option<Span>, scope: &Scope, e: &Expr, span: Span) -> Option<Span>
-    ensures { result ≡ after (in_printed scope.now (expr_of e.now) span (is_printed (expr_of e.now))) first }
+fn look_at_evaluated(first: Option<Span>, meant: &[Meant], e: &Expr, span: Span) -> Option<Span>
+    ensures { result ≡ after (in_printed meant.now (expr_of e.now) span (is_printed (expr_of e.now))) first }
 {
     match printed(e) {
         Some(value) => {
             let first = meet_when(first, e.span.from != span.from, span);
-            look_at_expr(first, scope, value)
+            look_at_expr(first, meant, value)
         }
-        None => look_at_expr(meet(first, span), scope, e),
+        None => look_at_expr(meet(first, span), meant, e),
     }
 }
 
 /// Looks at the value of a `return`.
-fn look_at_returned(first: Option<Span>, scope: &Scope, value: &Option<Expr>) -> Option<Span>
-    ensures { result ≡ after (in_returned scope.now (option_map expr_of value.now)) first }
+fn look_at_returned(first: Option<Span>, meant: &[Meant], value: &Option<Expr>) -> Option<Span>
+    ensures { result ≡ after (in_returned meant.now (option_map expr_of value.now)) first }
 {
     match value {
-        Some(value) => look_at_expr(first, scope, value),
+        Some(value) => look_at_expr(first, meant, value),
         None => first,
     }
 }
 
-/// Looks at a statement. What it declares is in the scope behind it.
+/// Looks at a statement.
 #[cycle(statement)]
 #[tactic(auto, using(hy_tree::proofs::Equations::stmt_variants))]
-fn look_at_stmt(
-    alloc: Global,
-    first: Option<Span>,
-    scope: &mut Scope,
-    stmt: &Stmt,
-) -> Result<Option<Span>, NoMemory>
-    ensures met { IfOk result (λ met. met ≡ after (in_stmt scope.old (stmt_of stmt.now)) first) }
-    ensures scope { OnOk result (scope.new ≡ behind scope.old (stmt_of stmt.now)) }
+fn look_at_stmt(first: Option<Span>, meant: &[Meant], stmt: &Stmt) -> Option<Span>
+    ensures { result ≡ after (in_stmt meant.now (stmt_of stmt.now)) first }
 {
     match &stmt.kind {
-        StmtKind::Binding(introducer, name, written, value) => {
+        StmtKind::Binding(introducer, _name, written, value) => {
             let first = meet_when(first, !is_plain(*introducer, written), stmt.span);
             let first = look_at_written(first, written);
-            let first = look_at_bound(first, scope, *introducer, value);
-            declare(alloc, first, scope, name)
+            look_at_bound(first, meant, *introducer, value)
         }
-        StmtKind::Declare(name, written) => {
-            let first = look_at_type(meet(first, stmt.span), written);
-            declare(alloc, first, scope, name)
-        }
+        StmtKind::Declare(_name, written) => look_at_type(meet(first, stmt.span), written),
         StmtKind::Assign(target, value) => {
             let first = meet_when(first, !is_name(target), stmt.span);
-            let first = look_at_expr(first, scope, target);
-            Ok(look_at_value(first, scope, value))
+            let first = look_at_expr(first, meant, target);
+            look_at_value(first, meant, value)
         }
         StmtKind::Compound(target, _, value) => {
-            let first = look_at_expr(meet(first, stmt.span), scope, target);
-            Ok(look_at_expr(first, scope, value))
+            let first = look_at_expr(meet(first, stmt.span), meant, target);
+            look_at_expr(first, meant, value)
         }
-        StmtKind::Expr(e) => Ok(look_at_evaluated(first, scope, e, stmt.span)),
+        StmtKind::Expr(e) => look_at_evaluated(first, meant, e, stmt.span),
         StmtKind::If(branches, otherwise) => {
-            let first = look_at_branches(
-                alloc,
-                meet(first, stmt.span),
-                scope,
-                branches.as_slice(),
-            )?;
-            look_at_else(alloc, first, otherwise)
+            let first = look_at_branches(meet(first, stmt.span), meant, branches.as_slice());
+            look_at_else(first, meant, otherwise)
         }
         StmtKind::While(_, condition, body) => {
-            let first = look_at_expr(meet(first, stmt.span), scope, condition);
-            look_at_block(alloc, first, body)
+            let first = look_at_expr(meet(first, stmt.span), meant, condition);
+            look_at_block(first, meant, body)
         }
-        StmtKind::Return(_, value) => Ok(look_at_returned(meet(first, stmt.span), scope, value)),
-        StmtKind::Break => Ok(meet(first, stmt.span)),
-        StmtKind::Continue => Ok(meet(first, stmt.span)),
-        StmtKind::Yield(_, value) => Ok(look_at_expr(meet(first, stmt.span), scope, value)),
+        StmtKind::Return(_, value) => look_at_returned(meet(first, stmt.span), meant, value),
+        StmtKind::Break => meet(first, stmt.span),
+        StmtKind::Continue => meet(first, stmt.span),
+        StmtKind::Yield(_, value) => look_at_expr(meet(first, stmt.span), meant, value),
     }
 }
 
-/// Looks at a block, which knows the names that it declares itself.
+/// Looks at a block.
 #[cycle(statement)]
-pub fn look_at_block(
-    alloc: Global,
-    first: Option<Span>,
-    body: &Block,
-) -> Result<Option<Span>, NoMemory>
-    ensures { IfOk result (λ met. met ≡ after (in_block (block_of body.now)) first) }
+pub fn look_at_block(first: Option<Span>, meant: &[Meant], body: &Block) -> Option<Span>
+    ensures { result ≡ after (in_block meant.now (block_of body.now)) first }
 {
     let mut first = first;
-    let mut scope = Scope::new(alloc);
     for stmt in body.stmts.as_slice() {
-        first = look_at_stmt(alloc, first, &mut scope, stmt)?;
+        first = look_at_stmt(first, meant, stmt);
     }
-    Ok(first)
+    first
 }
 
 #[cycle(statement)]
-fn look_at_branches(
-    alloc: Global,
-    first: Option<Span>,
-    scope: &Scope,
-    branches: &[Branch],
-) -> Result<Option<Span>, NoMemory>
-    ensures { IfOk result (λ met. met ≡ after (in_branches scope.now (branches_of branches.now)) first) }
+fn look_at_branches(first: Option<Span>, meant: &[Meant], branches: &[Branch]) -> Option<Span>
+    ensures { result ≡ after (in_branches meant.now (branches_of branches.now)) first }
 {
     let mut first = first;
     for branch in branches {
-        first = look_at_expr(first, scope, &branch.condition);
-        first = look_at_block(alloc, first, &branch.block)?;
+        first = look_at_expr(first, meant, &branch.condition);
+        first = look_at_block(first, meant, &branch.block);
     }
-    Ok(first)
+    first
 }
 
 #[cycle(statement)]
-fn look_at_else(
-    alloc: Global,
-    first: Option<Span>,
-    otherwise: &Option<Block>,
-) -> Result<Option<Span>, NoMemory>
-    ensures { IfOk result (λ met. met ≡ after (in_otherwise (else_of otherwise.now)) first) }
+fn look_at_else(first: Option<Span>, meant: &[Meant], otherwise: &Option<Block>) -> Option<Span>
+    ensures { result ≡ after (in_otherwise meant.now (else_of otherwise.now)) first }
 {
     match otherwise {
-        Some(body) => look_at_block(alloc, first, body),
-        None => Ok(first),
+        Some(body) => look_at_block(first, meant, body),
+        None => first,
     }
 }

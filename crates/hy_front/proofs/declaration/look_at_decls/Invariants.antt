@@ -1,8 +1,8 @@
-use Rattle.std.proofs.Common.{map, false}
+use Rattle.std.proofs.Common.{map}
 use Rattle.hy_tree.specs.Denotes.{decl_of}
 use Rattle.hy_front.specs.Unbuilt.{in_decls}
 use Rattle.hy_front.proofs.Walks.{HasWalked}
 use Rattle.hy_front.proofs.declaration.look_at_decls.Given as goal
 
 abbrev pub invariant-loop-decl : goal.invariant-loop-decl
-invariant-loop-decl l = HasWalked (λ before xs. in_decls before (map decl_of xs)) false l.decls l.fn.first l.decl-index l.before l.first
+invariant-loop-decl l = HasWalked (λ (s : Unit {0}) xs. in_decls l.meant (map decl_of xs)) tt l.decls l.fn.first l.decl-index tt l.first

@@ -7,5 +7,6 @@ use Rattle.hy_front.proofs.declaration.look_at_members.Goals as goal
 pub loop-member-preserved : goal.loop-member-preserved
 loop-member-preserved c =
     let one = c.member-item.result in
-    walked_more members_walk tt c.args.members.now c.args.first c.loop-member.member-index tt c.loop-member.first c.in_ok-first.first one c.member-item.is c.loop-member-test.true c.loop-member.invariant
-    (then_met one.span (in_member_kind (member_kind_of one.kind)) c.loop-member.first c.meet.result c.in_ok-first.first c.meet.ensures c.in_ok-first.ensures)
+    let meant = c.args.meant.now in
+    walked_more (members_walk meant) tt c.args.members.now c.args.first c.loop-member.member-index tt c.loop-member.first c.look_at_member_kind-first.result one c.member-item.is c.loop-member-test.true c.loop-member.invariant
+    (then_met one.span (in_member_kind meant (member_kind_of one.kind)) c.loop-member.first c.meet.result c.look_at_member_kind-first.result c.meet.ensures c.look_at_member_kind-first.ensures)

@@ -5,4 +5,4 @@ use Rattle.hy_front.proofs.Walks.{HasWalked}
 use Rattle.hy_front.proofs.declaration.look_at_members.Given as goal
 
 abbrev pub invariant-loop-member : goal.invariant-loop-member
-invariant-loop-member l = HasWalked (λ (s : Unit {0}) xs. in_members (map member_of xs)) tt l.members l.fn.first l.member-index tt l.first
+invariant-loop-member l = HasWalked (λ (s : Unit {0}) xs. in_members l.meant (map member_of xs)) tt l.members l.fn.first l.member-index tt l.first

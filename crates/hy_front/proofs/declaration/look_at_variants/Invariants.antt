@@ -5,4 +5,4 @@ use Rattle.hy_front.proofs.Walks.{HasWalked}
 use Rattle.hy_front.proofs.declaration.look_at_variants.Given as goal
 
 abbrev pub invariant-loop-v : goal.invariant-loop-v
-invariant-loop-v l = HasWalked (λ (s : Unit {0}) xs. in_variants (map variant_of xs)) tt l.variants l.fn.first l.v-index tt l.first
+invariant-loop-v l = HasWalked (λ (s : Unit {0}) xs. in_variants l.meant (map variant_of xs)) tt l.variants l.fn.first l.v-index tt l.first

@@ -1,8 +1,8 @@
 use Rattle.std.proofs.Common.{◌∙◌, ap, position}
 use Rattle.std.specs.List.{list_any}
 use Rattle.std.specs.Str.{bytes_eq}
-use Rattle.hy_front.proofs.Keys.{list_any-map, position-map, finds}
-use Rattle.hy_front.proofs.scope.Scope.position.Goals as goal
+use Rattle.hy_driver.proofs.Keys.{list_any-map, position-map, finds}
+use Rattle.hy_driver.proofs.scope.Scope.position.Goals as goal
 
 pub returns-clause-first : goal.returns-clause-first
 returns-clause-first c =

@@ -2,8 +2,8 @@
 ghost use Rattle.std.specs.Prelude.{◌≡◌, [], not, length, position, IfOk};
 ghost use Rattle.std.specs.List.{IsDistinct};
 ghost use Rattle.std.specs.Str.{bytes_eq};
-ghost use Rattle.hy_front.specs.Scopes.{Finds};
-ghost use Rattle.hy_front.specs.Unbuilt.{is_known, with_name};
+ghost use Rattle.hy_driver.specs.Scopes.{Finds};
+ghost use Rattle.hy_driver.specs.Scopes.{is_known, with_name};
 
 use hy_base::NoMemory;
 use indexmap::IndexSet;

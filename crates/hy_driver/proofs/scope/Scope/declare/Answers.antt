@@ -1,5 +1,5 @@
-use Rattle.hy_front.proofs.Keys.{added_is, scope_is}
-use Rattle.hy_front.proofs.scope.Scope.declare.Goals as goal
+use Rattle.hy_driver.proofs.Keys.{added_is, scope_is}
+use Rattle.hy_driver.proofs.scope.Scope.declare.Goals as goal
 
 pub returns-clause-added : goal.returns-clause-added
 returns-clause-added c =

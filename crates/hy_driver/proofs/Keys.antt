@@ -8,8 +8,8 @@ use Rattle.std.proofs.lemmas.List.Quantifiers.{position-Some}
 use Rattle.std.proofs.lemmas.Map.Views.{Contains-from_any, list_any-from_Contains}
 use Rattle.std.proofs.lemmas.Option.{slice_get-get_or}
 use Rattle.std.proofs.lemmas.Slice.Eq.{bytes_eq-Decides}
-use Rattle.hy_front.specs.Scopes.{Finds}
-use Rattle.hy_front.specs.Unbuilt.{is_known, with_name}
+use Rattle.hy_driver.specs.Scopes.{Finds}
+use Rattle.hy_driver.specs.Scopes.{is_known, with_name}
 
 module _ {K : Type 0} (f : K → List ℕ) (test : List ℕ → Bool) where
   pub list_any-map : (ks : List K) → list_any (λ k. test (f k)) ks ≡ list_any test (map f ks)
