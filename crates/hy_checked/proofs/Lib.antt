@@ -1,0 +1,12 @@
+pub mod Counted
+pub mod Chains
+pub mod Rows
+pub mod Holding
+pub mod Following
+pub mod Reaching
+pub mod Wholes
+pub mod Storing
+pub mod Naming
+pub mod Opening
+pub mod Started
+pub mod Begun

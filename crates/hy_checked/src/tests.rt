@@ -1,0 +1,110 @@
+// What memory holds after a call, and one instruction from the start of a run.
+ghost use Rattle.std.specs.Prelude.{◌≡◌};
+
+use crate::blocks::padded;
+use crate::store::Store;
+use crate::*;
+use hy_base::{NoMemory, TrapKind};
+use hy_object::{Fun, Place, Way};
+use sqlite_items::Items;
+use std::alloc::Global;
+use std::test::Fail;
+
+fn main_of(alloc: Global) -> Fun
+    ensures words { result.words ≡ 2 }
+    ensures slots { result.slots ≡ 1 }
+{
+    Fun {
+        accesses: 0,
+        owned: 0,
+        result: 0,
+        words: 2,
+        slots: 1,
+        code: Items::new(alloc),
+    }
+}
+
+#[test]
+fn a_block_is_kept_until_it_is_freed(rt: HostRuntime) -> Result<(), Fail> {
+    let mut blocks = Blocks::new(rt.alloc());
+    assert!(rt; !blocks.is_live(3));
+    let cells = padded(rt.alloc(), &[Cell::Word(-5)], 3).map_err(|_: NoMemory| "no memory")?;
+    blocks.take(3, cells).map_err(|_: NoMemory| "no memory")?;
+    assert_eq!(rt;
+        blocks.cells(3),
+        Some([Cell::Word(-5), Cell::Unset, Cell::Unset].as_slice())
+    );
+    blocks.free(3);
+    assert!(rt; blocks.cells(3).is_none());
+    Ok(())
+}
+
+#[test]
+fn a_word_is_stored(rt: HostRuntime) -> Result<(), Fail> {
+    let main = main_of(rt.alloc());
+    let Ok(mut store) = Store::begin(rt.alloc(), &main) else {
+        return Err(Fail::from("no memory"));
+    };
+    assert_eq!(rt; store.constant(&main, 1, 7), Ok(()));
+    assert_eq!(rt;
+        store.blocks.cells(0),
+        Some([Cell::Unset, Cell::Word(7)].as_slice())
+    );
+    Ok(())
+}
+
+#[test]
+fn a_word_is_lent(rt: HostRuntime) -> Result<(), Fail> {
+    let main = main_of(rt.alloc());
+    let Ok(mut store) = Store::begin(rt.alloc(), &main) else {
+        return Err(Fail::from("no memory"));
+    };
+    let place = Place { base: 0, offset: 1 };
+    assert_eq!(rt; store.lend(&main, 0, place, 1, Way::Write), Ok(()));
+    assert_eq!(rt; store.frames.slot(0, 0), Slot::Filled(0));
+    assert_eq!(rt; store.counts.opened, 1);
+    Ok(())
+}
+
+#[test]
+fn words_outside_the_frame_are_stuck(rt: HostRuntime) -> Result<(), Fail> {
+    let main = main_of(rt.alloc());
+    let Ok(mut store) = Store::begin(rt.alloc(), &main) else {
+        return Err(Fail::from("no memory"));
+    };
+    let place = Place { base: 0, offset: 1 };
+    assert_eq!(rt;
+        store.lend(&main, 0, place, 2, Way::Read),
+        Err(Halt::Stuck(hy_object::Kind::Range))
+    );
+    Ok(())
+}
+
+#[test]
+fn an_unset_word_is_stuck(rt: HostRuntime) -> Result<(), Fail> {
+    let main = main_of(rt.alloc());
+    let Ok(store) = Store::begin(rt.alloc(), &main) else {
+        return Err(Fail::from("no memory"));
+    };
+    assert_eq!(rt; store.read_word(&main, 0), Err(hy_object::Kind::Unset));
+    Ok(())
+}
+
+#[test]
+fn numbers_trap_where_they_do_not_fit(rt: HostRuntime) -> Result<(), Fail> {
+    assert_eq!(rt;
+        numbers::calculate(Operation::Add, i64::MAX, 1),
+        Err(TrapKind::Overflow)
+    );
+    assert_eq!(rt;
+        numbers::calculate(Operation::Rem, i64::MIN, -1),
+        Err(TrapKind::Overflow)
+    );
+    assert_eq!(rt;
+        numbers::calculate(Operation::Div, 7, 0),
+        Err(TrapKind::Divide)
+    );
+    assert_eq!(rt; numbers::calculate(Operation::Div, -7, 2), Ok(-3));
+    assert_eq!(rt; numbers::calculate(Operation::Rem, -7, 2), Ok(-1));
+    Ok(())
+}
