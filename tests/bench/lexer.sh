@@ -3,20 +3,8 @@
 # 1,000,000 bytes twenty times, and prints how many bytes a second it lexes. It stands outside the gate.
 #
 #     sh tests/bench/lexer.sh
-set -eu
-here=$(cd "$(dirname "$0")/../.." && pwd)
-work=$(mktemp -d)
-[ -n "${KEEP:-}" ] || trap 'rm -rf "$work"' EXIT
-mkdir -p "$work/crates/bench/src" "$work/crates/bench/specs"
-cp "$here/HANDLES" "$work/"
-cp -r "$here/crates/hy_base" "$here/crates/hy_lexer" "$work/crates/"
-rm -rf "$work"/crates/*/must-fail
-cat > "$work/crates.txt" <<'END'
-hy_base: indexmap thiserror sqlite_items
-hy_lexer: hy_base unicode_ident
-bench: hy_base hy_lexer anyhow
-END
-cat > "$work/crates/bench/src/main.rt" <<'END'
+. "$(dirname "$0")/repository.sh"
+bench_repository hy_base hy_lexer <<'END'
 //! Lexes what it reads twenty times, and prints the time.
 #![tactic(auto)]
 
@@ -43,8 +31,7 @@ fn main(rt: HostRuntime) -> io::Result<()> {
     println!(rt; "{length} {right} {micros}")
 }
 END
-mkdir -p "$work/crates/bench/data"
-python3 - "$work/crates/bench/data/source.hylo" <<'END'
+python3 - "$data/source.hylo" <<'END'
 import sys
 piece = """// A queue of numbers, kept as an array.
 type Queue: Deinitializable {
@@ -75,10 +62,7 @@ while len(text) + len(piece.encode()) <= 1000000:
 text += b" " * (1000000 - len(text))
 open(sys.argv[1], "wb").write(text)
 END
-cd "$work/crates/bench"
-# The first run only builds the program: the source lies in another folder.
-rt run > "$work/log" 2>&1 || true
-(cd data && ../out/bench) > "$work/out" || { cat "$work/log"; exit 1; }
+bench_run
 python3 - "$work/out" <<'END'
 import re, sys
 for line in open(sys.argv[1]):

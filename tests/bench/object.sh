@@ -3,20 +3,8 @@
 # object of 50,000,000 bytes and encodes it again, and prints how many bytes a second each does. It stands outside the gate.
 #
 #     sh tests/bench/object.sh
-set -eu
-here=$(cd "$(dirname "$0")/../.." && pwd)
-work=$(mktemp -d)
-[ -n "${KEEP:-}" ] || trap 'rm -rf "$work"' EXIT
-mkdir -p "$work/crates/bench/src" "$work/crates/bench/specs"
-cp "$here/HANDLES" "$work/"
-cp -r "$here/crates/hy_base" "$here/crates/hy_object" "$work/crates/"
-rm -rf "$work"/crates/*/must-fail
-cat > "$work/crates.txt" <<'END'
-hy_base: indexmap thiserror sqlite_items
-hy_object: hy_base sqlite_items thiserror
-bench: hy_base hy_object anyhow
-END
-cat > "$work/crates/bench/src/main.rt" <<'END'
+. "$(dirname "$0")/repository.sh"
+bench_repository hy_base hy_object <<'END'
 //! Decodes what it reads and encodes it again, five times, and prints the times.
 #![tactic(auto)]
 
@@ -47,8 +35,7 @@ fn main(rt: HostRuntime) -> io::Result<()> {
     Ok(())
 }
 END
-mkdir -p "$work/crates/bench/data"
-python3 - "$work/crates/bench/data/object.hyo" <<'END'
+python3 - "$data/object.hyo" <<'END'
 import sys
 
 def count(n):
@@ -76,10 +63,7 @@ funs = (50000000 - 20 - len(spans)) // len(one)
 file = b"HYLO\x01" + count(200) + spans + count(funs) + one * funs
 open(sys.argv[1], "wb").write(file)
 END
-cd "$work/crates/bench"
-# The first run only builds the program: the object lies in another folder.
-rt run > "$work/log" 2>&1 || true
-(cd data && ../out/bench) > "$work/out" || { cat "$work/log"; exit 1; }
+bench_run
 python3 - "$work/out" <<'END'
 import re, sys
 best = None

@@ -4,17 +4,8 @@
 # takes at most beyond its tokens. It stands outside the gate.
 #
 #     sh tests/bench/parser.sh
-set -eu
-here=$(cd "$(dirname "$0")/../.." && pwd)
-work=$(mktemp -d)
-[ -n "${KEEP:-}" ] || trap 'rm -rf "$work"' EXIT
-mkdir -p "$work/crates/bench/src" "$work/crates/bench/specs" "$work/crates/bench/data"
-cp "$here/HANDLES" "$work/"
-for crate in hy_base hy_lexer hy_tree hy_parser; do cp -r "$here/crates/$crate" "$work/crates/"; done
-rm -rf "$work"/crates/*/must-fail
-grep -E '^(hy_base|hy_lexer|hy_tree|hy_parser):' "$here/crates.txt" > "$work/crates.txt"
-echo 'bench: hy_base hy_lexer hy_tree hy_parser anyhow' >> "$work/crates.txt"
-cat > "$work/crates/bench/src/main.rt" <<'END'
+. "$(dirname "$0")/repository.sh"
+bench_repository hy_base hy_lexer hy_tree hy_parser <<'END'
 //! Parses what it reads as often as its file `times` says, and prints the time.
 #![tactic(auto)]
 
@@ -50,7 +41,7 @@ fn main(rt: HostRuntime) -> io::Result<()> {
     println!(rt; "{length} {count} {right} {micros}")
 }
 END
-python3 - "$work/crates/bench/data" <<'END'
+python3 - "$data" <<'END'
 import sys
 piece = """type Queue: Deinitializable {
   var items: Array<Int>
@@ -74,13 +65,10 @@ text += " " * (1048576 - len(text))
 open(sys.argv[1] + "/source.hylo", "w").write(text)
 open(sys.argv[1] + "/times", "w").write("x" * 20)
 END
-cd "$work/crates/bench"
-# The first run only builds the program: the source lies in another folder.
-rt run > "$work/log" 2>&1 || true
-cd data
-../out/bench > "$work/out" || { cat "$work/log"; exit 1; }
+bench_run
+cd "$data"
 python3 - "$work/out" <<'END'
-import resource, subprocess, sys
+import os, subprocess, sys
 length, count, right, micros = map(int, open(sys.argv[1]).read().split())
 if right != 20:
     sys.exit("the source was refused")
@@ -89,7 +77,7 @@ print(f"{20 * length / micros:.1f} MB/s ({length} bytes, {count} tokens, {right}
 def peak(times):
     open("times", "w").write("x" * times)
     run = subprocess.Popen(["../out/bench"], stdout=subprocess.DEVNULL)
-    return __import__("os").wait4(run.pid, 0)[2].ru_maxrss * 1024
+    return os.wait4(run.pid, 0)[2].ru_maxrss * 1024
 
 without, once = peak(0), peak(1)
 print(f"{(once - without) / length:.0f} bytes of tree a byte of source ({without} and {once} bytes at most without and with a parse)")
