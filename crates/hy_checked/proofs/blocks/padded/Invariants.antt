@@ -1,6 +1,0 @@
-use Rattle.std.proofs.Common.{◌≡◌, ◌++◌, replicate}
-use Rattle.hy_checked.specs.Cells.{Unset}
-use Rattle.hy_checked.proofs.blocks.padded.Given as goal
-
-abbrev pub invariant-loop : goal.invariant-loop
-invariant-loop l = l.cells.items ≡ l.first ++ replicate l.counter Unset

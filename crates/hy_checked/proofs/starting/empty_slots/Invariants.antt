@@ -1,6 +1,0 @@
-use Rattle.std.proofs.Common.{◌≡◌, replicate}
-use Rattle.hy_checked.specs.declared.frame.Slot.TheVariants.{Empty}
-use Rattle.hy_checked.proofs.starting.empty_slots.Given as goal
-
-abbrev pub invariant-loop : goal.invariant-loop
-invariant-loop l = l.row.items ≡ replicate l.counter Empty

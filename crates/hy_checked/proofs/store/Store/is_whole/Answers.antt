@@ -1,6 +1,0 @@
-use Rattle.std.proofs.Common.{sym, ◌∙◌}
-use Rattle.hy_checked.proofs.Wholes.{whole_is}
-use Rattle.hy_checked.proofs.store.Store.is_whole.Goals as goal
-
-pub returns : goal.returns
-returns c = λ g s sees. whole_is g c.args.self.now c.args.fun.now s sees c.args.reach.range c.cells.result.now c.cells.ensures ∙ sym c.are_set.ensures

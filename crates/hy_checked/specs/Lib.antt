@@ -1,9 +1,0 @@
-pub mod Calls
-pub mod Cells
-pub mod Frames
-pub mod Held
-pub mod Memory
-pub mod Names
-pub mod Opened
-pub mod Sees
-pub mod Replies

@@ -1,0 +1,14 @@
+pub mod Allots
+pub mod Calls
+pub mod Cells
+pub mod Closes
+pub mod Elements
+pub mod Frames
+pub mod Held
+pub mod Memory
+pub mod Names
+pub mod Opened
+pub mod Passes
+pub mod Returns
+pub mod Sees
+pub mod Replies

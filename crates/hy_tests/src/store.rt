@@ -1,0 +1,107 @@
+// What memory holds after a call, and one instruction from the start of a run.
+ghost use Rattle.std.specs.Prelude.{◌≡◌};
+
+use hy_base::NoMemory;
+use hy_object::{Fun, Place, Way};
+use hy_store::{Blocks, Cell, Halt, Slot, Store};
+use sqlite_items::Items;
+use std::alloc::Global;
+use std::test::Fail;
+
+fn main_of(alloc: Global) -> Fun
+    ensures words { result.words ≡ 2 }
+    ensures slots { result.slots ≡ 1 }
+{
+    Fun {
+        accesses: 0,
+        owned: 0,
+        result: 0,
+        words: 2,
+        slots: 1,
+        code: Items::new(alloc),
+    }
+}
+
+#[test]
+fn a_block_is_kept_until_it_is_freed(rt: HostRuntime) -> Result<(), Fail> {
+    let mut blocks = Blocks::new(rt.alloc());
+    assert!(rt; !blocks.is_live(3));
+    let cells = vec![in rt.alloc(); Cell::Word(-5), Cell::Unset, Cell::Unset]?;
+    blocks.take(3, cells).map_err(|_: NoMemory| "no memory")?;
+    assert_eq!(rt;
+        blocks.cells(3),
+        Some([Cell::Word(-5), Cell::Unset, Cell::Unset].as_slice())
+    );
+    blocks.free(3);
+    assert!(rt; blocks.cells(3).is_none());
+    Ok(())
+}
+
+#[test]
+fn a_word_is_stored(rt: HostRuntime) -> Result<(), Fail> {
+    let main = main_of(rt.alloc());
+    let Ok(mut store) = Store::begin(rt.alloc(), &main) else {
+        return Err(Fail::from("no memory"));
+    };
+    assert_eq!(rt; store.constant(&main, 1, 7), Ok(()));
+    assert_eq!(rt;
+        store.blocks.cells(0),
+        Some([Cell::Unset, Cell::Word(7)].as_slice())
+    );
+    Ok(())
+}
+
+#[test]
+fn a_word_is_lent(rt: HostRuntime) -> Result<(), Fail> {
+    let main = main_of(rt.alloc());
+    let Ok(mut store) = Store::begin(rt.alloc(), &main) else {
+        return Err(Fail::from("no memory"));
+    };
+    let place = Place { base: 0, offset: 1 };
+    assert_eq!(rt; store.lend(&main, 0, place, 1, Way::Write), Ok(()));
+    assert_eq!(rt; store.frames.slot(0, 0), Slot::Filled(0));
+    assert_eq!(rt; store.counts.opened, 1);
+    Ok(())
+}
+
+#[test]
+fn an_access_is_closed(rt: HostRuntime) -> Result<(), Fail> {
+    let main = main_of(rt.alloc());
+    let Ok(mut store) = Store::begin(rt.alloc(), &main) else {
+        return Err(Fail::from("no memory"));
+    };
+    assert!(rt; !store.was_lent(&main, 0, 1, 0));
+    let place = Place { base: 0, offset: 1 };
+    let Ok(()) = store.lend(&main, 0, place, 1, Way::Write) else {
+        return Err(Fail::from("no memory"));
+    };
+    assert_eq!(rt; store.close(&main, 0, false), Ok(()));
+    assert_eq!(rt; store.frames.slot(0, 0), Slot::Empty);
+    assert_eq!(rt; store.counts.closed, 1);
+    assert!(rt; store.opened.find(0).is_none());
+    Ok(())
+}
+
+#[test]
+fn words_outside_the_frame_are_stuck(rt: HostRuntime) -> Result<(), Fail> {
+    let main = main_of(rt.alloc());
+    let Ok(mut store) = Store::begin(rt.alloc(), &main) else {
+        return Err(Fail::from("no memory"));
+    };
+    let place = Place { base: 0, offset: 1 };
+    assert_eq!(rt;
+        store.lend(&main, 0, place, 2, Way::Read),
+        Err(Halt::Stuck(hy_object::Kind::Range))
+    );
+    Ok(())
+}
+
+#[test]
+fn an_unset_word_is_stuck(rt: HostRuntime) -> Result<(), Fail> {
+    let main = main_of(rt.alloc());
+    let Ok(store) = Store::begin(rt.alloc(), &main) else {
+        return Err(Fail::from("no memory"));
+    };
+    assert_eq!(rt; store.read_word(&main, 0), Err(hy_object::Kind::Unset));
+    Ok(())
+}
