@@ -8,7 +8,7 @@ use Rattle.hy_front.specs.Phases.{IsTree, Breaks}
 use Rattle.hy_object.specs.declared.object.Object.{Object}
 use Rattle.hy_object.specs.Bytes.{bytes_of}
 use Rattle.hy_driver.specs.Compiled.{IsCompiled}
-use Rattle.hy_driver.specs.declared.top.Report.{Report}
+use Rattle.hy_driver.specs.declared.due.Report.{Report}
 use Rattle.hy_driver.specs.Call.{Call, Filed, Streams, Messages, call_of, IsSource, IsQuiet}
 use Rattle.hy_front.specs.Phases.{longest}
 use Rattle.hy_driver.specs.Course as w
@@ -16,6 +16,8 @@ use Rattle.hy_driver.specs.Course.{Answer, bare, IsIdle, IsMade, Executes, Follo
 use Rattle.hy_driver.specs.Due.{Says, IsSaid}
 use Rattle.hy_driver.specs.Headline.{RefusesTheFirst, IsRefused, ReturnsTheObject, ReturnsNoOther, IsCode}
 use Rattle.hy_driver.specs.Texts.{file_fault, out_of_memory}
+use Rattle.hy_driver.proofs.Telling.{fails_rose}
+use Rattle.hy_words.specs.Asked.{Asked, ToRun, ToExec}
 
 -- a source has at most one tree
 abbrev pub OneTree : Type 0
@@ -23,8 +25,8 @@ OneTree = (bytes : List ℕ) (one other : Program) → IsTree bytes one → IsTr
 
 -- where the message did not fail it is said
 pub said : {it : Answer} {before after : Messages} {report : Report} → Says it before after report → after.faults ≡ before.faults → IsSaid it before after report
-said (inl it_said) same = it_said
-said (inr unsaid) same = absurd (omega (arith, unsaid.faults, same))
+said {it} {before} {after} (inl it_said) same = it_said
+said {it} {before} {after} (inr unsaid) same = let rose = fails_rose it.message it.lines before after unsaid.fails in absurd (omega (arith, rose, same))
 
 -- the ways of a call that loads a file which is told
 pub data From (file bytes : List ℕ) (files_before files_after : Filed) (before after : Streams) : Answer → Type 0 where
@@ -35,10 +37,13 @@ pub data From (file bytes : List ℕ) (files_before files_after : Filed) (before
 same_bytes : (whole bytes other : List ℕ) (h : _) → h ≡ Holding whole → Loads h longest bytes → other ≡ take (longest + 1) whole → bytes ≡ other
 same_bytes whole bytes other h told loads is = let l : Loads (Holding whole) longest bytes = subst (λ h. Loads h longest bytes) told loads in l ∙ sym is
 
-some_is : {x y : List ℕ} → Some x ≡ Some y → x ≡ y
+some_is : {x y : List ℕ} → Some (ToRun x) ≡ Some (ToRun y) → x ≡ y
 some_is e = cc
 
-pub not_none : {x : List ℕ} {o : Option (List ℕ)} → o ≡ None → o ≡ Some x → ⊥
+other_command : {x y : List ℕ} {options : _} → Some (ToExec x options) ≡ Some (ToRun y) → ⊥
+other_command e = cc
+
+pub not_none : {x : Asked} {o : Option Asked} → o ≡ None → o ≡ Some x → ⊥
 not_none a b = cc
 
 module _ (words : List (List ℕ)) (may_fail : List ℕ → Type 0) (files_before files_after : Filed) (before after : Streams) (err_before err_after : Messages) (report : Report) where
@@ -54,6 +59,7 @@ module _ (words : List (List ℕ)) (may_fail : List ℕ → Type 0) (files_befor
       let same_file : other ≡ file = some_is (sym command ∙ source.command) in
       let bytes_are : loaded_bytes ≡ bytes = same_bytes source.whole loaded_bytes bytes (files_before.holds other) (ap files_before.holds same_file ∙ source.told) loads source.loaded in
       went same (subst (λ b. Follows file b before after it) bytes_are (subst (λ f. Follows f loaded_bytes before after it) same_file follows))
+  from_source file bytes it source (w.loaded_object command loads same executes) = absurd (other_command (sym command ∙ source.command))
 
   -- REFUSAL
 

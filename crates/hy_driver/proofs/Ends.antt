@@ -10,7 +10,7 @@ use Rattle.hy_tree.specs.Tree.{Program}
 use Rattle.hy_meaning.specs.Forms.{first_of, links_of, printed, main_of}
 use Rattle.hy_front.specs.Phases.{IsTree, Breaks}
 use Rattle.hy_meaning.specs.Meaning.{Value, Env, State, Outcome, Gives, Stops, Flow, Next, Over, fits, checked, operand_value, add_all, eval, print_value, exec, block, then_do, and_then, turn, start, reported, mean}
-use Rattle.hy_driver.specs.declared.top.Report.{Report}
+use Rattle.hy_driver.specs.declared.due.Report.{Report}
 use Rattle.hy_driver.specs.Call.{Call, Filed, Streams, Messages, call_of, IsSource, IsInput, IsQuiet}
 use Rattle.hy_driver.specs.Course as w
 use Rattle.hy_driver.specs.Course.{Answer, Executes, Follows, Goes}

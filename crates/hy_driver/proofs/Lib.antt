@@ -2,6 +2,7 @@ pub mod Causes
 pub mod Clauses
 mod Compiles
 pub mod Ends
+pub mod Executing
 mod Frames
 mod Extents
 mod Found
@@ -12,5 +13,9 @@ mod Grammar
 mod Leads
 mod Named
 mod Puts
+mod Reports
+mod Statuses
+pub mod Telling
 pub mod ThisRun
 pub mod Ways
+mod Worded

@@ -1,5 +1,5 @@
 -- This run, and what is written where it is cut off.
-use Rattle.std.proofs.Common.{◌≡◌, ℕ, zero, false, List, length, take, Option, Some, None, refl, sym, ◌∙◌, ap, subst, inl, inr, arith, lit≤}
+use Rattle.std.proofs.Common.{◌≡◌, ◌≢◌, ℕ, zero, false, List, length, take, Option, Some, None, refl, sym, ◌∙◌, ap, subst, inl, inr, arith, lit≤}
 use Rattle.std.proofs.lemmas.List.{append-nil}
 use Rattle.std.proofs.Math.Seq.{take-length}
 use Rattle.hy_base.specs.declared.run.Ending.{Ending}
@@ -16,21 +16,22 @@ use Rattle.hy_object.specs.declared.object.Object.{Object}
 use Rattle.hy_object.specs.Bytes.{bytes_of}
 use Rattle.hy_object.specs.Runs.{Runs, OneRun, WritesBeginnings}
 use Rattle.hy_object.specs.States.{Ended}
-use Rattle.hy_machine.specs.Runs.{Appends, IsTaken, IsCutOffAt, CountsCause}
-use Rattle.hy_driver.specs.declared.top.Report as top
+use Rattle.hy_runs.specs.Runs.{Told, Appends, IsTaken, IsCutOffAt, CutOffBy, CountsCause}
+use Rattle.hy_driver.specs.declared.due.Report as top
 use Rattle.hy_driver.specs.Call.{Call, Filed, Streams, Messages, call_of, IsInput, IsQuiet}
 use Rattle.hy_driver.specs.Compiled.{IsCompiled, Agrees}
 use Rattle.hy_driver.specs.Course as w
 use Rattle.hy_driver.specs.Course.{Answer, IsIdle, IsMade, IsRun, IsCut, Executes, Follows, Goes}
 use Rattle.hy_driver.specs.Due.{Says, IsSaid}
+use Rattle.hy_driver.specs.Executed.{told_of, faults_of}
 use Rattle.hy_driver.specs.Headline.{turns, status_of, end_message, IsRunOf, RunsAsItMeans, WritesABeginning}
 use Rattle.hy_driver.proofs.Clauses.{OneTree, From, failed, wanting, went, from_source, said}
 
-ended_is : {e f : End} → Ended e ≡ Ended f → e ≡ f
+pub ended_is : {e f : End} → Ended e ≡ Ended f → e ≡ f
 ended_is e = cc
 
 -- the input of a run is the one that the source told
-input_is : (input left : List ℕ) (count : ℕ) (old new : Tape) (before after : Option Tape) → before ≡ Some old → after ≡ Some new → left ≡ old.left
+pub input_is : (input left : List ℕ) (count : ℕ) (old new : Tape) (before after : Option Tape) → before ≡ Some old → after ≡ Some new → left ≡ old.left
     → StillTells before after (IsTaken input count) → input ≡ left
 input_is input left count old new before after told still is taken =
     let t : StillTells (Some old) (Some new) (IsTaken input count) = subst (λ a. StillTells (Some old) a (IsTaken input count)) still (subst (λ b. StillTells b after (IsTaken input count)) told taken) in
@@ -50,26 +51,26 @@ module _ (words : List (List ℕ)) (may_fail : List ℕ → Type 0) (files_befor
   is_run_of : (file bytes left : List ℕ) (tree : Program) (object : Object) (ending : Ending) → IsCompiled tree object → IsInput c left → IsRun object before after ending
       → IsSaid (w.ended_answer file bytes (bytes_of object) ending) err_before err_after report → IsRunOf c file bytes left tree
   is_run_of file bytes left tree object ending made input run it_said =
-      let ran = run.ran in
+      let ran = run.stopped.ran in
       let same_input : ran.input ≡ left = input_is ran.input left ran.run.taken input.old input.new before.input after.input input.told input.still input.left_of_it ran.taken in
       let runs : Runs object left false turns ran.run = subst (λ i. Runs object i false turns ran.run) same_input ran.runs in
       let asked = made.same left false turns (lit≤ tt) in
       let same_run : ran.run ≡ asked.0 = one_run object left false turns ran.run asked.0 runs asked.1 in
       let agrees : Agrees ran.run (mean tree left false turns) = subst (λ r. Agrees r (mean tree left false turns)) (sym same_run) asked.2 in
-      let end_is : ending.end ≡ (mean tree left false turns).end = ended_is (sym ran.ended ∙ agrees.stop) in
+      let end_is : ending.end ≡ (mean tree left false turns).end = ended_is (sym ran.stopped ∙ agrees.stop) in
       record {
         object = object;
         bytes_are = it_said.object;
         run = ran.run;
         runs = runs;
-        counts = it_said.counts ∙ sym ran.counts;
+        counts = it_said.counts ∙ sym ran.same_counts;
         status = it_said.status ∙ ap status_of end_is;
         output = subst (λ o. StillTells before.out after.out (Appends o)) agrees.output ran.output;
         taken = subst (λ t. StillTells before.input after.input (IsTaken left t)) agrees.taken (subst (λ i. StillTells before.input after.input (IsTaken i ran.run.taken)) same_input ran.taken);
         message = subst (λ e. StillTells err_before.told err_after.told (Appends (end_message file bytes e))) end_is it_said.told;
       }
 
-  not_cut : (old : RunCause) (fault : RunFault) → fault.cause ≡ old → IsQuiet c → CountsCause old before.input_faults after.input_faults before.out_faults after.out_faults
+  not_cut : (old : RunCause) (fault : RunFault) → fault.cause ≡ old → IsQuiet c → CountsCause old (faults_of before) (faults_of after)
       → report.status ≡ w.cause_status old → ⊥
   not_cut cause.Input fault is quiet rose status = let same = quiet.input in let r = rose.0 in omega (arith, r, same)
   not_cut cause.Output fault is quiet rose status = let same = quiet.out in let r = rose.1 in omega (arith, r, same)
@@ -79,7 +80,7 @@ module _ (words : List (List ℕ)) (may_fail : List ℕ → Type 0) (files_befor
       → Executes file bytes object before after it → IsRunOf c file bytes left tree
   executes_as file bytes left tree object it made input quiet it_said (w.ended {ending = ending} run) = is_run_of file bytes left tree object ending made input run it_said
   executes_as file bytes left tree object it made input quiet it_said (w.message_wanted run) = absurd (quiet.memory it_said.status)
-  executes_as file bytes left tree object it made input quiet it_said (w.cut_off {fault = fault} cut) = absurd (not_cut fault.cause fault refl quiet cut.faults it_said.status)
+  executes_as file bytes left tree object it made input quiet it_said (w.cut_off {fault = fault} cut) = absurd (not_cut fault.cause fault refl quiet cut.cut_short.faults it_said.status)
 
   follows_as : (file bytes left : List ℕ) (tree : Program) (it : Answer) → IsTree bytes tree → IsInput c left → IsQuiet c → IsSaid it err_before err_after report
       → Follows file bytes before after it → IsRunOf c file bytes left tree
@@ -103,7 +104,7 @@ module _ (words : List (List ℕ)) (may_fail : List ℕ → Type 0) (files_befor
   all_out : (left : List ℕ) (tree : Program) (object : Object) (ending : Ending) → IsCompiled tree object → IsInput c left → IsRun object before after ending
       → (n : ℕ) × StillTells before.out after.out (Appends (take n (mean tree left false turns).output))
   all_out left tree object ending made input run =
-      let ran = run.ran in
+      let ran = run.stopped.ran in
       let same_input : ran.input ≡ left = input_is ran.input left ran.run.taken input.old input.new before.input after.input input.told input.still input.left_of_it ran.taken in
       let runs : Runs object left false turns ran.run = subst (λ i. Runs object i false turns ran.run) same_input ran.runs in
       let asked = made.same left false turns (lit≤ tt) in
@@ -113,7 +114,7 @@ module _ (words : List (List ℕ)) (may_fail : List ℕ → Type 0) (files_befor
       (length all, subst (λ o. StillTells before.out after.out (Appends o)) (output ∙ sym (take-length all)) ran.output)
 
   cut_out : (left : List ℕ) (tree : Program) (object : Object) (fault : RunFault) → IsCompiled tree object → IsInput c left
-      → IsCutOffAt object turns before.input after.input before.out after.out fault → (n : ℕ) × StillTells before.out after.out (Appends (take n (mean tree left false turns).output))
+      → IsCutOffAt object turns (told_of before) (told_of after) fault → (n : ℕ) × StillTells before.out after.out (Appends (take n (mean tree left false turns).output))
   cut_out left tree object fault made input cut =
       let same_input : cut.input ≡ left = input_is cut.input left _ input.old input.new before.input after.input input.told input.still input.left_of_it cut.taken in
       let asked = made.same cut.input false turns (lit≤ tt) in
@@ -121,13 +122,19 @@ module _ (words : List (List ℕ)) (may_fail : List ℕ → Type 0) (files_befor
       let output : asked.0.output ≡ (mean tree left false turns).output = asked.2.output ∙ ap (λ i. (mean tree i false turns).output) same_input in
       (begins.0, subst (λ o. StillTells before.out after.out (Appends o)) (begins.1 ∙ ap (λ o. take begins.0 o) output) cut.output)
 
+  -- it was not cut off by the input
+  cut_by : (left : List ℕ) (tree : Program) (object : Object) (fault : RunFault) → IsCompiled tree object → IsInput c left
+      → (by : RunCause) → by ≢ cause.Input → CutOffBy by object turns (told_of before) (told_of after) fault → (n : ℕ) × StillTells before.out after.out (Appends (take n (mean tree left false turns).output))
+  cut_by left tree object fault made input cause.Input not_input cut = absurd (not_input refl)
+  cut_by left tree object fault made input cause.Output not_input cut = cut_out left tree object fault made input cut
+  cut_by left tree object fault made input cause.NoMemory not_input (inl at) = cut_out left tree object fault made input at
+  cut_by left tree object fault made input cause.NoMemory not_input (inr off) = nothing_out before.out after.out (mean tree left false turns).output off.output
+
   executes_out : (file bytes left : List ℕ) (tree : Program) (object : Object) (it : Answer) → IsCompiled tree object → IsInput c left → Executes file bytes object before after it
       → (n : ℕ) × StillTells before.out after.out (Appends (take n (mean tree left false turns).output))
   executes_out file bytes left tree object it made input (w.ended {ending = ending} run) = all_out left tree object ending made input run
   executes_out file bytes left tree object it made input (w.message_wanted {ending = ending} run) = all_out left tree object ending made input run
-  executes_out file bytes left tree object it made input (w.cut_off {fault = fault} cut) =
-      elim cut.cut as (λ _. (n : ℕ) × StillTells before.out after.out (Appends (take n (mean tree left false turns).output)))
-      [ inl at ↦ cut_out left tree object fault made input at | inr off ↦ nothing_out before.out after.out (mean tree left false turns).output off.output ]
+  executes_out file bytes left tree object it made input (w.cut_off {fault = fault} cut) = cut_by left tree object fault made input fault.cause cut.no_input cut.cut_short.cut
 
   follows_out : (file bytes left : List ℕ) (tree : Program) (it : Answer) → IsTree bytes tree → IsInput c left → Follows file bytes before after it
       → (n : ℕ) × StillTells before.out after.out (Appends (take n (mean tree left false turns).output))

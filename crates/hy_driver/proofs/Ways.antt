@@ -10,9 +10,13 @@ use Rattle.hy_object.specs.Bytes.{bytes_of}
 use Rattle.hy_driver.specs.declared.top.Made.{Made}
 use Rattle.hy_driver.specs.Call.{Filed, Streams}
 use Rattle.hy_driver.specs.Course as w
-use Rattle.hy_driver.specs.Course.{Answer, answer, bare, ended_answer, IsEither, IsIdle, IsRun, IsCut, Executes, Follows, Goes, cause_status, cause_message}
+use Rattle.hy_driver.specs.Course.{Answer, answer, bare, ended_answer, IsEither, IsIdle, IsRun, IsCut, IsStopped, IsCutShort, Executes, ExecutesFile, stopped_answer, Follows, Goes, cause_status, cause_message}
 use Rattle.hy_driver.specs.Due.{IsMadeOf}
-use Rattle.hy_driver.specs.Texts.{out_of_memory, refusal_message}
+use Rattle.hy_driver.specs.Executed.{IsFileOf, IsBadFile}
+use Rattle.hy_driver.specs.Texts.{out_of_memory, refusal_message, bad_object_message}
+use Rattle.hy_object.specs.declared.object.Object.{Object}
+use Rattle.hy_object.specs.States.{Stop}
+use Rattle.hy_words.specs.declared.words.Options.{Options}
 
 -- a message that is this text, or want of memory
 pub either_way : (message : Result (String Global) NoMemory) (it : Answer) (status : ℕ) (text object : List ℕ) (counts : Counts)
@@ -49,6 +53,27 @@ module _ (file bytes : List ℕ) (before after : Streams) where
 
   pub follows_want : (it : Answer) → IsIdle before after → it ≡ bare 8 out_of_memory → Follows file bytes before after it
   follows_want it idle is = subst (λ it. Follows file bytes before after it) (sym is) (w.memory_wanted idle)
+
+module _ (file bytes : List ℕ) (options : Options) (before after : Streams) where
+  -- the object of a file has run to its end
+  pub file_stops : (object : Object) (stop : Stop) (counts : Counts) (it : Answer) → IsFileOf bytes object → IsStopped object options.turns before after stop counts
+      → IsEither it (stopped_answer file options bytes stop counts) (answer 8 out_of_memory bytes counts) → ExecutesFile file bytes options before after it
+  file_stops object stop counts it of_file run (inl is) = subst (λ it. ExecutesFile file bytes options before after it) (sym is) (w.stopped of_file run)
+  file_stops object stop counts it of_file run (inr is) = subst (λ it. ExecutesFile file bytes options before after it) (sym is) (w.untold of_file run)
+
+  -- its run was cut off
+  pub file_cut : (object : Object) (fault : RunFault) (it : Answer) → IsFileOf bytes object → IsCutShort object options.turns before after fault
+      → it ≡ answer (cause_status fault.cause) (cause_message fault.cause) bytes fault.counts → ExecutesFile file bytes options before after it
+  file_cut object fault it of_file cut is = subst (λ it. ExecutesFile file bytes options before after it) (sym is) (w.cut_short of_file cut)
+
+  -- the file was refused
+  pub file_bad : (place : ℕ) (it : Answer) → IsBadFile bytes place → IsIdle before after → IsEither it (bare 10 (bad_object_message file place)) (bare 8 out_of_memory)
+      → ExecutesFile file bytes options before after it
+  file_bad place it bad idle (inl is) = subst (λ it. ExecutesFile file bytes options before after it) (sym is) (w.bad bad idle)
+  file_bad place it bad idle (inr is) = subst (λ it. ExecutesFile file bytes options before after it) (sym is) (w.not_decoded idle)
+
+  pub file_want : (it : Answer) → IsIdle before after → it ≡ bare 8 out_of_memory → ExecutesFile file bytes options before after it
+  file_want it idle is = subst (λ it. ExecutesFile file bytes options before after it) (sym is) (w.not_decoded idle)
 
 -- another name for what is answered
 pub goes_as : {words : List (List ℕ)} {may_fail : List ℕ → Type 0} {files_before files_after : Filed} {before after : Streams} {it one : Answer}

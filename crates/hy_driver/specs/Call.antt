@@ -5,8 +5,9 @@ use Rattle.hy_base.specs.declared.run.Counts.{Counts}
 use Rattle.hy_base.specs.Files.{Held, Holding}
 use Rattle.hy_base.specs.Streams.{Tape}
 use Rattle.hy_front.specs.Phases.{longest}
-use Rattle.hy_driver.specs.declared.top.Report.{Report}
-use Rattle.hy_driver.specs.Words.{command_of}
+use Rattle.hy_words.specs.Asked.{ToRun}
+use Rattle.hy_words.specs.Commands.{command_of}
+use Rattle.hy_driver.specs.declared.due.Report.{Report}
 
 -- files at a moment: how often they have failed, and what they tell of each name
 pub record Filed : Type 0 where
@@ -71,7 +72,7 @@ call f_faults f_holds i_faults i_tells k_faults k_tells e_faults e_tells words f
 
 -- The command runs this file, and these bytes are loaded: the files tell what it holds.
 pub record IsSource (c : Call) (file bytes : List ℕ) : Type 0 where
-  pub command : command_of c.words ≡ Some file
+  pub command : command_of c.words ≡ Some (ToRun file)
   pub whole : List ℕ
   pub told : c.files_before.holds file ≡ Holding whole
   pub loaded : bytes ≡ take (longest + 1) whole

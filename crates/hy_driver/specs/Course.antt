@@ -1,7 +1,8 @@
 -- The ways that a call may go, up to its message.
-use Rattle.std.specs.Prelude.{◌⊎◌, ◌≡◌, ℕ, suc, List, [], Some, None}
+use Rattle.std.specs.Prelude.{◌⊎◌, ◌≡◌, ◌≢◌, ℕ, suc, List, [], Some, None}
 use Rattle.hy_base.specs.declared.run.Counts.{Counts}
 use Rattle.hy_base.specs.declared.run.Ending.{Ending}
+use Rattle.hy_base.specs.declared.run.End.TheVariants.{Asks}
 use Rattle.hy_base.specs.declared.run.RunCause.{RunCause}
 use Rattle.hy_base.specs.declared.run.RunCause.TheVariants as cause
 use Rattle.hy_base.specs.declared.run.RunFault.{RunFault}
@@ -11,24 +12,30 @@ use Rattle.hy_tree.specs.Tree.{Program}
 use Rattle.hy_front.specs.Phases.{longest, IsTree, Breaks}
 use Rattle.hy_object.specs.declared.object.Object.{Object}
 use Rattle.hy_object.specs.Bytes.{bytes_of}
+use Rattle.hy_object.specs.States.{Stop, Ended}
 use Rattle.hy_object.specs.Steps.{no_counts}
 use Rattle.hy_machine.specs.Built.{IsBuilt}
-use Rattle.hy_machine.specs.Runs.{RanToItsEnd, WasCutOff, CountsCause}
+use Rattle.hy_runs.specs.Runs.{RanToItsEnd, WasCutOff, CountsNone, CountsCause}
 use Rattle.hy_driver.specs.Call.{Filed, Streams}
 use Rattle.hy_driver.specs.Compiled.{IsCompiled}
 use Rattle.hy_driver.specs.Headline.{turns, status_of, end_message}
-use Rattle.hy_driver.specs.Texts.{refusal_message, usage, file_fault, input_fault, output_fault, out_of_memory}
-use Rattle.hy_driver.specs.Words.{command_of}
+use Rattle.hy_driver.specs.Executed.{longest_object, IsFileOf, IsBadFile, status_of_stop, stop_message, lines_of, told_of, faults_of}
+use Rattle.hy_driver.specs.Texts.{refusal_message, bad_object_message, usage, file_fault, input_fault, output_fault, out_of_memory}
+use Rattle.hy_words.specs.declared.words.Options.{Options}
+use Rattle.hy_words.specs.Asked.{Asked, ToRun, ToExec, file_of}
+use Rattle.hy_words.specs.Commands.{command_of}
 
--- what is answered, unless its message fails
+-- what is answered, unless its message fails; `lines` are those of the report, if one is due
 pub record Answer : Type 0 where
   pub status : ℕ
   pub message : List ℕ
+  pub lines : List ℕ
   pub object : List ℕ
   pub counts : Counts
 
+-- no report is due
 abbrev pub answer : ℕ → List ℕ → List ℕ → Counts → Answer
-answer status message object counts = record { status = status; message = message; object = object; counts = counts }
+answer status message object counts = record { status = status; message = message; lines = []; object = object; counts = counts }
 
 -- nothing was made
 abbrev pub bare : ℕ → List ℕ → Answer
@@ -48,15 +55,24 @@ pub record IsIdle (before after : Streams) : Type 0 where
   pub input : after.input ≡ before.input
   pub out : after.out ≡ before.out
 
--- the run came to its end, and no count rose
-pub record IsRun (object : Object) (before after : Streams) (ending : Ending) : Type 0 where
-  pub input_faults : after.input_faults ≡ before.input_faults
-  pub out_faults : after.out_faults ≡ before.out_faults
-  pub ran : RanToItsEnd object turns before.input after.input before.out after.out ending
+-- the run of an object came to its end, and no count rose
+pub record IsStopped (object : Object) (n : ℕ) (before after : Streams) (stop : Stop) (counts : Counts) : Type 0 where
+  pub faults : CountsNone (faults_of before) (faults_of after)
+  pub ran : RanToItsEnd object n (told_of before) (told_of after) stop counts
+  pub no_asks : stop ≢ Ended Asks
 
+pub record IsCutShort (object : Object) (n : ℕ) (before after : Streams) (fault : RunFault) : Type 0 where
+  pub faults : CountsCause fault.cause (faults_of before) (faults_of after)
+  pub cut : WasCutOff object n (told_of before) (told_of after) fault
+
+-- the run of what was made of a source came to its end
+pub record IsRun (object : Object) (before after : Streams) (ending : Ending) : Type 0 where
+  pub stopped : IsStopped object turns before after (Ended ending.end) ending.counts
+
+-- or it was cut off, but not by the input, of which it reads nothing
 pub record IsCut (object : Object) (before after : Streams) (fault : RunFault) : Type 0 where
-  pub faults : CountsCause fault.cause before.input_faults after.input_faults before.out_faults after.out_faults
-  pub cut : WasCutOff object turns before.input after.input before.out after.out fault
+  pub cut_short : IsCutShort object turns before after fault
+  pub no_input : fault.cause ≢ cause.Input
 
 abbrev pub cause_status : RunCause → ℕ
 cause_status cause.Input = 6
@@ -89,13 +105,33 @@ pub data Follows (file bytes : List ℕ) (before after : Streams) : Answer → T
   memory_wanted : IsIdle before after → Follows file bytes before after (bare 8 out_of_memory)
   executed : {tree : Program} {object : Object} {it : Answer} → IsMade bytes tree object → Executes file bytes object before after it → Follows file bytes before after it
 
+-- EXEC
+
+-- a run that stopped so, of an object file with these bytes
+abbrev pub stopped_answer : List ℕ → Options → List ℕ → Stop → Counts → Answer
+stopped_answer file options bytes stop counts =
+    record { status = status_of_stop stop; message = stop_message file options.turns stop; lines = lines_of options.report counts; object = bytes; counts = counts }
+
+-- how the execution of a file with these bytes may go
+pub data ExecutesFile (file bytes : List ℕ) (options : Options) (before after : Streams) : Answer → Type 0 where
+  bad : {place : ℕ} → IsBadFile bytes place → IsIdle before after → ExecutesFile file bytes options before after (bare 10 (bad_object_message file place))
+  not_decoded : IsIdle before after → ExecutesFile file bytes options before after (bare 8 out_of_memory)
+  stopped : {object : Object} {stop : Stop} {counts : Counts} → IsFileOf bytes object → IsStopped object options.turns before after stop counts
+      → ExecutesFile file bytes options before after (stopped_answer file options bytes stop counts)
+  untold : {object : Object} {stop : Stop} {counts : Counts} → IsFileOf bytes object → IsStopped object options.turns before after stop counts
+      → ExecutesFile file bytes options before after (answer 8 out_of_memory bytes counts)
+  cut_short : {object : Object} {fault : RunFault} → IsFileOf bytes object → IsCutShort object options.turns before after fault
+      → ExecutesFile file bytes options before after (answer (cause_status fault.cause) (cause_message fault.cause) bytes fault.counts)
+
 -- the whole of it; the files may fail in loading
 pub data Goes (words : List (List ℕ)) (may_fail : List ℕ → Type 0) (files_before files_after : Filed) (before after : Streams) : Answer → Type 0 where
   no_command : command_of words ≡ None → files_after.faults ≡ files_before.faults → IsIdle before after
       → Goes words may_fail files_before files_after before after (bare 2 usage)
-  files_failed : {file : List ℕ} → command_of words ≡ Some file → may_fail file → files_after.faults ≡ suc files_before.faults → IsIdle before after
+  files_failed : {asked : Asked} → command_of words ≡ Some asked → may_fail (file_of asked) → files_after.faults ≡ suc files_before.faults → IsIdle before after
       → Goes words may_fail files_before files_after before after (bare 5 file_fault)
-  not_loaded : {file : List ℕ} → command_of words ≡ Some file → files_after.faults ≡ files_before.faults → IsIdle before after
+  not_loaded : {asked : Asked} → command_of words ≡ Some asked → files_after.faults ≡ files_before.faults → IsIdle before after
       → Goes words may_fail files_before files_after before after (bare 8 out_of_memory)
-  loaded : {file bytes : List ℕ} {it : Answer} → command_of words ≡ Some file → Loads (files_before.holds file) longest bytes → files_after.faults ≡ files_before.faults
+  loaded : {file bytes : List ℕ} {it : Answer} → command_of words ≡ Some (ToRun file) → Loads (files_before.holds file) longest bytes → files_after.faults ≡ files_before.faults
       → Follows file bytes before after it → Goes words may_fail files_before files_after before after it
+  loaded_object : {file bytes : List ℕ} {options : Options} {it : Answer} → command_of words ≡ Some (ToExec file options) → Loads (files_before.holds file) longest_object bytes
+      → files_after.faults ≡ files_before.faults → ExecutesFile file bytes options before after it → Goes words may_fail files_before files_after before after it

@@ -1,6 +1,7 @@
--- The clauses of the top call.
-use Rattle.std.specs.Prelude.{◌≡◌, ◌≢◌, ◌⊎◌, ◌↔◌, ◌==◌, if◌then◌else◌, ℕ, suc, false, List, [], take, Some, None, Option}
+-- The clauses of the top call: those on `run`, and those on every command.
+use Rattle.std.specs.Prelude.{◌≡◌, ◌≢◌, ◌⊎◌, ◌↔◌, ◌==◌, ◌<◌, ◌&&◌, ◌||◌, if◌then◌else◌, ℕ, suc, Bool, true, false, List, [], ◌∷◌, ◌++◌, take, Some, None, Option}
 use Rattle.hy_base.specs.declared.position.Span.{Span}
+use Rattle.hy_base.specs.declared.run.Counts.{Counts}
 use Rattle.hy_base.specs.declared.run.TrapKind.{TrapKind}
 use Rattle.hy_base.specs.declared.run.End.{End}
 use Rattle.hy_base.specs.declared.run.End.TheVariants as end
@@ -13,11 +14,12 @@ use Rattle.hy_object.specs.declared.object.Object.{Object}
 use Rattle.hy_object.specs.Bytes.{bytes_of}
 use Rattle.hy_object.specs.Runs.{Run, Runs}
 use Rattle.hy_object.specs.Steps.{no_counts}
-use Rattle.hy_machine.specs.Runs.{Appends, IsTaken}
+use Rattle.hy_runs.specs.Runs.{Appends, IsTaken}
 use Rattle.hy_driver.specs.Call.{Call, IsSource, IsInput, IsQuiet}
 use Rattle.hy_driver.specs.Compiled.{IsCompiled}
-use Rattle.hy_driver.specs.Texts.{refusal_message, trap_message, spent_message, usage, file_fault, input_fault, output_fault, out_of_memory}
-use Rattle.hy_driver.specs.Words.{command_of}
+use Rattle.hy_driver.specs.Texts.{refusal_message, trap_message, spent_message, usage, file_fault, input_fault, output_fault, out_of_memory, report_lines}
+use Rattle.hy_words.specs.Asked.{Asked, ToRun, ToExec, file_of}
+use Rattle.hy_words.specs.Commands.{command_of}
 
 -- how many turns a run has
 abbrev pub turns : ℕ
@@ -105,7 +107,7 @@ pub record IsLeftAlone (c : Call) : Type 0 where
 abbrev pub LeavesAllAlone : Call → Type 0
 LeavesAllAlone c = command_of c.words ≡ None → IsLeftAlone c
 
--- a run stores no file
+-- no command stores a file
 abbrev pub KeepsFiles : Call → Type 0
 KeepsFiles c = (name : List ℕ) → c.files_after.holds name ≡ c.files_before.holds name
 
@@ -115,8 +117,31 @@ plain_message status =
     if status == 0 then Some [] else (if status == 2 then Some usage else (if status == 5 then Some file_fault else (if status == 6 then Some input_fault
     else (if status == 7 then Some output_fault else (if status == 8 then Some out_of_memory else None)))))
 
+-- a report is asked for
+abbrev pub asks_report : Option Asked → Bool
+asks_report None = false
+asks_report (Some (ToRun file)) = false
+asks_report (Some (ToExec file options)) = options.report
+
+-- the statuses that a report goes with
+abbrev pub is_reported : ℕ → Bool
+is_reported status = status == 0 || (status == 3 || (status == 4 || status == 9))
+
+-- the lines of the report, where one is due
+abbrev pub due_lines : Option Asked → ℕ → Counts → List ℕ
+due_lines asked status counts = if is_reported status && asks_report asked then report_lines counts else []
+
+-- a message, with the lines behind it, if there are any
+abbrev pub with_lines : (message lines : List ℕ) → List ℕ
+with_lines message [] = message
+with_lines message (byte ∷ lines) = message ++ (byte ∷ lines)
+
+abbrev pub with_report : Call → List ℕ → List ℕ
+with_report c message = with_lines message (due_lines (command_of c.words) c.status c.counts)
+
 abbrev pub SaysWhatItAnswers : Call → Type 0
-SaysWhatItAnswers c = c.err_after.faults ≡ c.err_before.faults → (text : List ℕ) → plain_message c.status ≡ Some text → StillTells c.err_before.told c.err_after.told (Appends text)
+SaysWhatItAnswers c = c.err_after.faults ≡ c.err_before.faults → (text : List ℕ) → plain_message c.status ≡ Some text
+    → StillTells c.err_before.told c.err_after.told (Appends (with_report c text))
 
 -- a count has risen
 abbrev pub Rose : ℕ → ℕ → Type 0
@@ -126,11 +151,15 @@ Rose before after = after ≡ suc before
 abbrev pub RisesOnce : ℕ → ℕ → Type 0
 RisesOnce before after = (after ≡ before) ⊎ Rose before after
 
+-- where a report is asked for it may fail, and then the message of that
+abbrev pub RisesTwice : Call → Type 0
+RisesTwice c = (asks_report (command_of c.words) ≡ true) × (c.err_after.faults ≡ suc (suc c.err_before.faults))
+
 pub record CountsOneFault (c : Call) : Type 0 where
   pub files : RisesOnce c.files_before.faults c.files_after.faults
   pub input : RisesOnce c.before.input_faults c.after.input_faults
   pub out : RisesOnce c.before.out_faults c.after.out_faults
-  pub err : RisesOnce c.err_before.faults c.err_after.faults
+  pub err : RisesOnce c.err_before.faults c.err_after.faults ⊎ RisesTwice c
 
 -- CAUSES
 
@@ -161,10 +190,10 @@ Answers4 c = AnswersEnd 4 (λ e. e ≡ end.Spent) c
 
 abbrev pub Answers5 : (List ℕ → Type 0) → Call → Type 0
 Answers5 may_fail c = ((c.status ≡ 5) ↔ (Rose c.files_before.faults c.files_after.faults × (c.err_after.faults ≡ c.err_before.faults)))
-    × (c.status ≡ 5 → (file : List ℕ) × (command_of c.words ≡ Some file) × may_fail file)
+    × (c.status ≡ 5 → (asked : Asked) × (command_of c.words ≡ Some asked) × may_fail (file_of asked))
 
 abbrev pub Answers6 : Call → Type 0
 Answers6 c = (c.status ≡ 6) ↔ (Rose c.before.input_faults c.after.input_faults × (c.err_after.faults ≡ c.err_before.faults))
 
 abbrev pub Answers7 : Call → Type 0
-Answers7 c = (c.status ≡ 7) ↔ (Rose c.before.out_faults c.after.out_faults ⊎ Rose c.err_before.faults c.err_after.faults)
+Answers7 c = (c.status ≡ 7) ↔ (Rose c.before.out_faults c.after.out_faults ⊎ (c.err_before.faults < c.err_after.faults))

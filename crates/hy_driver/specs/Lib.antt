@@ -2,9 +2,9 @@ pub mod Call
 pub mod Compiled
 pub mod Course
 pub mod Due
+pub mod Executed
 pub mod Headline
 pub mod Lower
 pub mod Message
 pub mod Scopes
 pub mod Texts
-pub mod Words

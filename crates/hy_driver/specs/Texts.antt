@@ -2,16 +2,20 @@
 use Rattle.std.specs.Prelude.{ℕ, ◌+◌, ◌==◌, List, [], ◌∷◌, ◌++◌, take, count_by, fold, codes, if◌then◌else◌}
 use Rattle.std.specs.Fmt.{decimal}
 use Rattle.hy_base.specs.declared.position.Span.{Span}
+use Rattle.hy_base.specs.declared.run.Counts.{Counts}
 use Rattle.hy_base.specs.declared.run.TrapKind.{TrapKind}
 use Rattle.hy_base.specs.declared.run.TrapKind.TheVariants as trap
 use Rattle.hy_base.specs.First.{Refusal}
 use Rattle.hy_base.specs.Rules.{name_of, text_of}
+use Rattle.hy_object.specs.declared.stuck.Kind.{Kind}
+use Rattle.hy_object.specs.declared.stuck.Kind.TheVariants as kind
+use Rattle.hy_object.specs.declared.stuck.Pc.{Pc}
 
 abbrev pub line : List ℕ → List ℕ
 line text = text ++ 10 ∷ []
 
 abbrev pub usage : List ℕ
-usage = line (codes "usage: hyloc run FILE")
+usage = line (codes "usage: hyloc run FILE | exec FILE [--turns N] [--report]")
 
 abbrev pub file_fault : List ℕ
 file_fault = line (codes "hyloc: file fault")
@@ -62,3 +66,37 @@ trap_message file bytes kind span = located file bytes span (said (codes "trap")
 
 abbrev pub spent_message : ℕ → List ℕ
 spent_message n = codes "hyloc: spent after " ++ (decimal n ++ line (codes " turns"))
+
+-- OBJECT FILES
+
+-- FILE (FROM-TO): trap KIND
+abbrev pub object_trap_message : List ℕ → TrapKind → Span → List ℕ
+object_trap_message file why span = file ++ (codes " (" ++ (decimal span.from ++ (codes "-" ++ (decimal span.to ++ (codes "): trap " ++ line (trap_text why))))))
+
+abbrev pub stuck_text : Kind → List ℕ
+stuck_text kind.Freed = codes "freed"
+stuck_text kind.Unset = codes "unset"
+stuck_text kind.Range = codes "range"
+stuck_text kind.Kind = codes "kind"
+stuck_text kind.Access = codes "access"
+stuck_text kind.Slot = codes "slot"
+stuck_text kind.Lost = codes "lost"
+stuck_text kind.Order = codes "order"
+
+-- FILE: stuck KIND at FUN:AT
+abbrev pub stuck_message : List ℕ → Kind → Pc → List ℕ
+stuck_message file why place = file ++ (codes ": stuck " ++ (stuck_text why ++ (codes " at " ++ (decimal place.fun ++ (codes ":" ++ line (decimal place.at))))))
+
+abbrev pub bad_object_message : List ℕ → ℕ → List ℕ
+bad_object_message file place = file ++ (codes ": bad object at " ++ line (decimal place))
+
+-- THE REPORT
+
+abbrev pub count_line : List ℕ → ℕ → List ℕ
+count_line name count = name ++ (codes " " ++ line (decimal count))
+
+-- what a run has counted, in five lines
+abbrev pub report_lines : Counts → List ℕ
+report_lines counts =
+    count_line (codes "turns") counts.turns ++ count_line (codes "blocks") counts.blocks ++ count_line (codes "freed") counts.freed ++ count_line (codes "opened") counts.opened
+    ++ count_line (codes "closed") counts.closed

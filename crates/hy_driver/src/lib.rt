@@ -2,12 +2,15 @@
 //! where.
 #![tactic(auto)]
 
+mod due;
+mod execute;
 mod lower;
 mod message;
 mod scope;
 #[cfg(test)]
 mod tests;
 mod top;
-mod words;
 
-pub use top::{Report, TURNS, hyloc};
+pub use due::Report;
+pub use execute::LONGEST_OBJECT;
+pub use top::hyloc;

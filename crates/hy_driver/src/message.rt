@@ -1,9 +1,10 @@
 // The messages of the program, one line each. `docs/REFUSALS.md` has their texts.
 ghost use Rattle.std.specs.Prelude.{◌≡◌, ◌<◌, ◌++◌, IfOk, OnOk, string_bytes};
 ghost use Rattle.hy_driver.specs.Message.{bytes_of_message};
-ghost use Rattle.hy_driver.specs.Texts.{line_number, column_number, located, place_text, said, trap_text, refusal_message, trap_message, spent_message};
+ghost use Rattle.hy_driver.specs.Texts.{line_number, column_number, located, place_text, said, trap_text, refusal_message, trap_message, spent_message, object_trap_message, stuck_text, stuck_message, bad_object_message, count_line, report_lines};
 
-use hy_base::{NoMemory, Rule, Span, TrapKind};
+use hy_base::{Counts, NoMemory, Rule, Span, TrapKind};
+use hy_object::{Kind, Pc};
 use std::alloc::Global;
 
 /// A message to the user, or none.
@@ -14,7 +15,7 @@ pub enum Message {
     Made(String),
 }
 
-pub const USAGE: &str = "usage: hyloc run FILE\n";
+pub const USAGE: &str = "usage: hyloc run FILE | exec FILE [--turns N] [--report]\n";
 
 pub const FILE_FAULT: &str = "hyloc: file fault\n";
 
@@ -142,4 +143,74 @@ pub fn spent(alloc: Global, turns: u64) -> Result<String, NoMemory>
 {
     let message = format!(in alloc; "hyloc: spent after {turns} turns\n")?;
     Ok(message)
+}
+
+/// What an object that traps says: there is no text whose lines could be counted.
+pub fn trapped_in_object(
+    alloc: Global,
+    file: &str,
+    kind: TrapKind,
+    span: Span,
+) -> Result<String, NoMemory>
+    ensures { IfOk result (λ message. string_bytes message ≡ object_trap_message file.now kind span) }
+{
+    let from = span.from;
+    let to = span.to;
+    let kind = text_of_trap(kind);
+    let message = format!(in alloc; "{file} ({from}-{to}): trap {kind}\n")?;
+    Ok(message)
+}
+
+fn text_of_kind(kind: Kind) -> &'static str
+    ensures { result.now ≡ stuck_text kind }
+{
+    match kind {
+        Kind::Freed => "freed",
+        Kind::Unset => "unset",
+        Kind::Range => "range",
+        Kind::Kind => "kind",
+        Kind::Access => "access",
+        Kind::Slot => "slot",
+        Kind::Lost => "lost",
+        Kind::Order => "order",
+    }
+}
+
+/// What a machine says that is stuck at an instruction.
+pub fn stuck(alloc: Global, file: &str, kind: Kind, place: Pc) -> Result<String, NoMemory>
+    ensures { IfOk result (λ message. string_bytes message ≡ stuck_message file.now kind place) }
+{
+    let kind = text_of_kind(kind);
+    let fun = place.fun;
+    let at = place.at;
+    let message = format!(in alloc; "{file}: stuck {kind} at {fun}:{at}\n")?;
+    Ok(message)
+}
+
+/// What a file is answered that is no object's.
+pub fn bad_object(alloc: Global, file: &str, place: u64) -> Result<String, NoMemory>
+    ensures { IfOk result (λ message. string_bytes message ≡ bad_object_message file.now place) }
+{
+    let message = format!(in alloc; "{file}: bad object at {place}\n")?;
+    Ok(message)
+}
+
+fn put_count(alloc: Global, lines: &mut String, name: &str, count: u64) -> Result<(), NoMemory>
+    ensures { OnOk result (string_bytes lines.new ≡ string_bytes lines.old ++ count_line name.now count) }
+{
+    let line = format!(in alloc; "{name} {count}\n")?;
+    put(lines, line.as_str())
+}
+
+/// What a run has counted, in five lines.
+pub fn counted(alloc: Global, counts: Counts) -> Result<String, NoMemory>
+    ensures { IfOk result (λ lines. string_bytes lines ≡ report_lines counts) }
+{
+    let mut lines = String::new(alloc);
+    put_count(alloc, &mut lines, "turns", counts.turns)?;
+    put_count(alloc, &mut lines, "blocks", counts.blocks)?;
+    put_count(alloc, &mut lines, "freed", counts.freed)?;
+    put_count(alloc, &mut lines, "opened", counts.opened)?;
+    put_count(alloc, &mut lines, "closed", counts.closed)?;
+    Ok(lines)
 }

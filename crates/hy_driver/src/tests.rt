@@ -315,11 +315,15 @@ fn other_words_are_no_command(rt: HostRuntime) -> Result<(), Fail> {
         &["run", "a", "b"],
         &["run", "-a"],
         &["run", ""],
+        &["run", "a", "--report"],
+        &["exec"],
+        &["exec", "a", "--turns"],
     ];
     for words in rows {
         let seen = call(alloc, words, "a", SUM.as_bytes(), Vec::new(alloc))?;
         assert_eq!(rt; seen.status, 2, "{words:?}");
-        assert_eq!(rt; seen.err.as_slice(), b"usage: hyloc run FILE\n".as_slice());
+        let usage = "usage: hyloc run FILE | exec FILE [--turns N] [--report]\n";
+        assert_eq!(rt; seen.err.as_slice(), usage.as_bytes());
         assert_eq!(rt; seen.object.len(), 0);
     }
     Ok(())
@@ -376,5 +380,25 @@ fn a_name_keeps_its_place(rt: HostRuntime) -> Result<(), Fail> {
         (2, Some(1))
     );
     assert!(rt; scope.knows(b"x".as_slice()) && !scope.knows(b"z".as_slice()));
+    Ok(())
+}
+
+#[test]
+fn bytes_that_are_no_object(rt: HostRuntime) -> Result<(), Fail> {
+    let alloc = rt.alloc();
+    // The first is whole but for its last field.
+    let rows: [(&[u8], &str); 3] = [
+        (b"HYLO\x01\x00\x01\x00\x00\x00\x00\x00\x01\x12", "13"),
+        (b"HYLP\x01\x00\x01\x00\x00\x00\x00\x00\x01\x12\x00", "0"),
+        (b"", "0"),
+    ];
+    for (bytes, place) in rows {
+        let words = ["exec", "o", "--report"];
+        let seen = call(alloc, &words, "o", bytes, Vec::new(alloc))?;
+        let want = format!(in alloc; "o: bad object at {place}\n")?;
+        assert_eq!(rt; seen.err.as_slice(), want.as_bytes());
+        assert_eq!(rt; seen.status, 10);
+        assert_eq!(rt; seen.object.len(), 0);
+    }
     Ok(())
 }

@@ -1,88 +1,33 @@
 // The top call: from the words of a command to a status.
-ghost use Rattle.std.specs.Prelude.{◌≡◌, ◌-◌, ◌^◌, ◌<◌, List, ℕ, map, string_bytes, MatchResult};
+ghost use Rattle.std.specs.Prelude.{◌≡◌, ◌-◌, ◌^◌, ◌<◌, ◌≤◌, List, ℕ, length, map, string_bytes, Some};
 ghost use Rattle.hy_base.specs.Answers.{Answers};
 ghost use Rattle.hy_front.specs.Phases.{Breaks};
-ghost use Rattle.hy_driver.specs.Course.{Goes, Follows, answer, bare, IsEither, ended_answer, cause_status, cause_message};
+ghost use Rattle.hy_words.specs.Asked.{ToRun, ToExec};
+ghost use Rattle.hy_words.specs.Commands.{command_of};
+ghost use Rattle.hy_words.specs.Reads.{word_at};
+ghost use Rattle.hy_driver.specs.Course.{Goes, Follows, answer, bare, IsEither, ended_answer};
 ghost use Rattle.hy_driver.specs.Call.{call, filed, streams, messages};
 ghost use Rattle.hy_driver.specs.Headline.{RefusesTheFirst, ReturnsTheObject, ReturnsNoOther, RunsAsItMeans, WritesABeginning, LeavesAllAlone, KeepsFiles, SaysWhatItAnswers, CountsOneFault, Answers0, Answers1, Answers2, Answers3, Answers4, Answers5, Answers6, Answers7};
+ghost use Rattle.hy_driver.specs.Executed.{ExecutesTheObject, RefusesTheFile, KeepsToTheRun, ReturnsTheBytes, AnswersItsEnd, Answers9, Answers10};
 ghost use Rattle.hy_driver.specs.Texts.{out_of_memory, refusal_message};
-ghost use Rattle.hy_driver.specs.Due.{answer_of, Says, IsMadeOf};
+ghost use Rattle.hy_driver.specs.Due.{answer_of, IsMadeOf};
 
+use crate::due::{Due, NO_COUNTS, Report, answered, bare, cut_off, tell, with_message};
+use crate::execute::{LONGEST_OBJECT, execute_file};
 use crate::lower::lower;
-use crate::message::{self, FILE_FAULT, INPUT_FAULT, Message, OUT_OF_MEMORY, OUTPUT_FAULT, USAGE};
-use crate::words::file_of;
-use hy_base::{
-    Counts, End, Ending, Fault, FileFault, Files, NoMemory, Rule, RunCause, RunFault, Sink, Source,
-    Span,
-};
+use crate::message::{self, FILE_FAULT, Message, OUT_OF_MEMORY, USAGE};
+use hy_base::{End, Ending, Fault, FileFault, Files, Rule, Sink, Source, Span};
 use hy_front::{LONGEST, front, one_tree};
 use hy_machine::run;
-use hy_object::{Object, encode, one_run, writes_beginnings};
+use hy_object::{Object, encode, one_place, one_run, one_spelling, writes_beginnings};
+use hy_words::{Command, Options, TURNS, Usage, read_words};
 use std::alloc::Global;
-
-/// How many turns a run has.
-pub const TURNS: u64 = 1_000_000_000;
-
-const NO_COUNTS: Counts = Counts {
-    turns: 0,
-    blocks: 0,
-    freed: 0,
-    opened: 0,
-    closed: 0,
-};
-
-/// What a call answers: its status, as `README.md` lists them; the bytes of the object once it is made; what its run counted.
-#[derive(Debug, Drop)]
-pub struct Report {
-    pub status: u8,
-    pub object: Vec<u8>,
-    pub counts: Counts,
-}
-
-// A report, with the message that goes with it.
-#[derive(Drop)]
-pub struct Due {
-    pub report: Report,
-    pub message: Message,
-}
 
 // The object of a source, with its bytes.
 #[derive(Drop)]
 pub struct Made {
     pub object: Object,
     pub bytes: Vec<u8>,
-}
-
-// A report of a call that made nothing.
-fn bare(alloc: Global, status: u8, text: &'static str) -> Due
-    ensures { answer_of result ≡ bare status text.now }
-{
-    Due {
-        report: Report {
-            status,
-            object: Vec::new(alloc),
-            counts: NO_COUNTS,
-        },
-        message: Message::Fixed(text),
-    }
-}
-
-// Gives the message, and then the report that is due.
-fn tell<E: Sink>(err: &mut E, due: Due) -> Report
-    requires { E.faults err.old < 2 ^ 64 - 1 }
-    ensures { Says (answer_of due) (messages (E.faults err.old) (E.tells err.old)) (messages (E.faults err.new) (E.tells err.new)) result }
-{
-    let Due { report, message } = due;
-    if let Message::Silent = message {
-        return report;
-    }
-    match err.put(message.as_bytes()) {
-        Ok(()) => report,
-        Err(_) => Report {
-            status: 7,
-            ..report
-        },
-    }
 }
 
 // The object of a source.
@@ -93,42 +38,6 @@ fn compile(alloc: Global, source: &[u8]) -> Result<Made, Fault>
     let object = lower(alloc, &tree)?;
     let bytes = encode(alloc, &object)?;
     Ok(Made { object, bytes })
-}
-
-// A report with the message that was made for it, or for want of memory the report of that.
-fn with_message(
-    status: u8,
-    object: Vec<u8>,
-    counts: Counts,
-    message: Result<String, NoMemory>,
-) -> Due
-    ensures { MatchResult message (λ text. answer_of result ≡ answer status (string_bytes text) object.items counts) (λ _. answer_of result ≡ answer 8 out_of_memory object.items counts) }
-{
-    match message {
-        Ok(text) => Due {
-            report: Report {
-                status,
-                object,
-                counts,
-            },
-            message: Message::Made(text),
-        },
-        Err(_) => wanting(object, counts),
-    }
-}
-
-// Memory was wanting.
-fn wanting(object: Vec<u8>, counts: Counts) -> Due
-    ensures { answer_of result ≡ answer 8 out_of_memory object.items counts }
-{
-    Due {
-        report: Report {
-            status: 8,
-            object,
-            counts,
-        },
-        message: Message::Fixed(OUT_OF_MEMORY),
-    }
 }
 
 // A source that breaks a rule.
@@ -145,40 +54,13 @@ fn end(alloc: Global, file: &str, source: &[u8], object: Vec<u8>, ending: Ending
 {
     let counts = ending.counts;
     match ending.end {
-        End::Done => Due {
-            report: Report {
-                status: 0,
-                object,
-                counts,
-            },
-            message: Message::Silent,
-        },
+        End::Done => answered(0, object, counts, Message::Silent),
         End::Trap(kind, span) => {
             let text = message::trapped(alloc, file, source, kind, span);
             with_message(3, object, counts, text)
         }
         End::Spent => with_message(4, object, counts, message::spent(alloc, TURNS)),
         End::Asks => with_message(4, object, counts, message::spent(alloc, TURNS)),
-    }
-}
-
-// A run that was cut off.
-fn cut_off(object: Vec<u8>, fault: RunFault) -> Due
-    ensures { answer_of result ≡ answer (cause_status fault.cause) (cause_message fault.cause) object.items fault.counts }
-{
-    let counts = fault.counts;
-    let (status, text) = match fault.cause {
-        RunCause::Input => (6, INPUT_FAULT),
-        RunCause::Output => (7, OUTPUT_FAULT),
-        RunCause::NoMemory => (8, OUT_OF_MEMORY),
-    };
-    Due {
-        report: Report {
-            status,
-            object,
-            counts,
-        },
-        message: Message::Fixed(text),
     }
 }
 
@@ -222,6 +104,57 @@ fn follow<I: Source, K: Sink>(
     }
 }
 
+// `run FILE`, up to its message.
+fn run_file<F: Files, I: Source, K: Sink>(
+    alloc: Global,
+    file: &str,
+    files: &mut F,
+    input: &mut I,
+    out: &mut K,
+) -> Due
+    requires file_faults { F.faults files.old < 2 ^ 64 - 2 }
+    requires input_faults { I.faults input.old < 2 ^ 64 - 2 }
+    requires out_faults { K.faults out.old < 2 ^ 64 - 2 }
+    ensures way { (words : List (List ℕ)) → command_of words ≡ Some (ToRun file.now) → Goes words (F.load_may_fail files.old) (filed (F.faults files.old) (F.holds files.old)) (filed (F.faults files.new) (F.holds files.new)) (streams (I.faults input.old) (K.faults out.old) (I.tells input.old) (K.tells out.old)) (streams (I.faults input.new) (K.faults out.new) (I.tells input.new) (K.tells out.new)) (answer_of result) }
+    ensures files { (name : List ℕ) → F.holds files.new name ≡ F.holds files.old name }
+{
+    match files.load(alloc, file, LONGEST) {
+        Ok(source) => follow(alloc, file, &source, input, out),
+        Err(FileFault::Failed) => bare(alloc, 5, FILE_FAULT),
+        Err(FileFault::NoMemory) => bare(alloc, 8, OUT_OF_MEMORY),
+    }
+}
+
+// `exec FILE` with its options, up to its message.
+fn exec_file<F: Files, I: Source, K: Sink>(
+    alloc: Global,
+    file: &str,
+    options: Options,
+    files: &mut F,
+    input: &mut I,
+    out: &mut K,
+) -> Due
+    requires turns { options.turns ≤ 2 ^ 32 }
+    requires file_faults { F.faults files.old < 2 ^ 64 - 2 }
+    requires input_faults { I.faults input.old < 2 ^ 64 - 2 }
+    requires out_faults { K.faults out.old < 2 ^ 64 - 2 }
+    ensures way { (words : List (List ℕ)) → command_of words ≡ Some (ToExec file.now options) → Goes words (F.load_may_fail files.old) (filed (F.faults files.old) (F.holds files.old)) (filed (F.faults files.new) (F.holds files.new)) (streams (I.faults input.old) (K.faults out.old) (I.tells input.old) (K.tells out.old)) (streams (I.faults input.new) (K.faults out.new) (I.tells input.new) (K.tells out.new)) (answer_of result) }
+    ensures files { (name : List ℕ) → F.holds files.new name ≡ F.holds files.old name }
+{
+    match files.load(alloc, file, LONGEST_OBJECT) {
+        Ok(bytes) => execute_file(alloc, file, options, bytes, input, out),
+        Err(FileFault::Failed) => bare(alloc, 5, FILE_FAULT),
+        Err(FileFault::NoMemory) => bare(alloc, 8, OUT_OF_MEMORY),
+    }
+}
+
+fn word_at(words: &[String], place: usize) -> &str
+    requires { place < length words.now }
+    ensures { result.now ≡ word_at (map string_bytes words.now) place }
+{
+    words[place].as_str()
+}
+
 // The whole of a call, up to its message.
 fn go<F: Files, I: Source, K: Sink>(
     alloc: Global,
@@ -236,18 +169,25 @@ fn go<F: Files, I: Source, K: Sink>(
     ensures way { Goes (map string_bytes words.now) (F.load_may_fail files.old) (filed (F.faults files.old) (F.holds files.old)) (filed (F.faults files.new) (F.holds files.new)) (streams (I.faults input.old) (K.faults out.old) (I.tells input.old) (K.tells out.old)) (streams (I.faults input.new) (K.faults out.new) (I.tells input.new) (K.tells out.new)) (answer_of result) }
     ensures files { (name : List ℕ) → F.holds files.new name ≡ F.holds files.old name }
 {
-    let Some(file) = file_of(words) else {
-        return bare(alloc, 2, USAGE);
-    };
-    match files.load(alloc, file, LONGEST) {
-        Ok(source) => follow(alloc, file, &source, input, out),
-        Err(FileFault::Failed) => bare(alloc, 5, FILE_FAULT),
-        Err(FileFault::NoMemory) => bare(alloc, 8, OUT_OF_MEMORY),
+    match read_words(words) {
+        Ok(Command::Run { file }) => run_file(alloc, word_at(words, file), files, input, out),
+        Ok(
+            Command::Exec {
+                file,
+                turns,
+                report,
+            },
+        ) => {
+            let options = Options { turns, report };
+            exec_file(alloc, word_at(words, file), options, files, input, out)
+        }
+        Err(Usage) => bare(alloc, 2, USAGE),
     }
 }
 
-/// Carries a command out: `run FILE` loads the source, compiles it and runs its object with at most `TURNS` turns. The words
-/// are those behind the program's name. `docs/MEANING.md` says what a source means, `README.md` what each status says.
+/// Carries a command out: `run FILE` loads the source, compiles it and runs its object with at most `TURNS` turns, and
+/// `exec FILE` loads an object and runs it on the machine that checks. The words are those behind the program's name.
+/// `docs/MEANING.md` says what a source means, `docs/MACHINE.md` what an object does, `README.md` what each status says.
 pub fn hyloc<F: Files, I: Source, K: Sink, E: Sink>(
     alloc: Global,
     words: &[String],
@@ -279,6 +219,20 @@ pub fn hyloc<F: Files, I: Source, K: Sink, E: Sink>(
         (call F.faults F.holds I.faults I.tells K.faults K.tells E.faults E.tells words.now
         files.old files.new input.old input.new out.old out.new err.old err.new result) }
     ensures after_a_fault { WritesABeginning
+        (call F.faults F.holds I.faults I.tells K.faults K.tells E.faults E.tells words.now
+        files.old files.new input.old input.new out.old out.new err.old err.new result) }
+
+    // An object file is executed as its code runs, or refused at the place where it is bad.
+    ensures executes { ExecutesTheObject
+        (call F.faults F.holds I.faults I.tells K.faults K.tells E.faults E.tells words.now
+        files.old files.new input.old input.new out.old out.new err.old err.new result) }
+    ensures bad_file { RefusesTheFile
+        (call F.faults F.holds I.faults I.tells K.faults K.tells E.faults E.tells words.now
+        files.old files.new input.old input.new out.old out.new err.old err.new result) }
+    ensures keeps_to_the_run { KeepsToTheRun
+        (call F.faults F.holds I.faults I.tells K.faults K.tells E.faults E.tells words.now
+        files.old files.new input.old input.new out.old out.new err.old err.new result) }
+    ensures bytes { ReturnsTheBytes
         (call F.faults F.holds I.faults I.tells K.faults K.tells E.faults E.tells words.now
         files.old files.new input.old input.new out.old out.new err.old err.new result) }
 
@@ -321,11 +275,22 @@ pub fn hyloc<F: Files, I: Source, K: Sink, E: Sink>(
     ensures status_7 { Answers7
         (call F.faults F.holds I.faults I.tells K.faults K.tells E.faults E.tells words.now
         files.old files.new input.old input.new out.old out.new err.old err.new result) }
+    ensures its_end { AnswersItsEnd
+        (call F.faults F.holds I.faults I.tells K.faults K.tells E.faults E.tells words.now
+        files.old files.new input.old input.new out.old out.new err.old err.new result) }
+    ensures status_9 { Answers9
+        (call F.faults F.holds I.faults I.tells K.faults K.tells E.faults E.tells words.now
+        files.old files.new input.old input.new out.old out.new err.old err.new result) }
+    ensures status_10 { Answers10
+        (call F.faults F.holds I.faults I.tells K.faults K.tells E.faults E.tells words.now
+        files.old files.new input.old input.new out.old out.new err.old err.new result) }
 {
     // The laws that its clauses stand on; these calls do nothing.
     one_tree();
     one_run();
     writes_beginnings();
+    one_spelling();
+    one_place();
     let due = go(alloc, words, files, input, out);
     tell(err, due)
 }

@@ -11,17 +11,10 @@ use Rattle.hy_object.specs.declared.instr.Instr.{Instr}
 use Rattle.hy_object.specs.declared.stuck.Kind.TheVariants as kind
 use Rattle.hy_object.specs.States.{Stuck}
 use Rattle.hy_machine.specs.Machine.{State, code, does, fetched, step, steps}
-use Rattle.hy_machine.specs.Runs.{Appends}
+use Rattle.hy_runs.specs.Runs.{Appends}
+use Rattle.hy_runs.proofs.Tellings.{told_none, told_more}
 use Rattle.hy_machine.specs.Walks.{printed_by, piece, Unkept, standing, written, advanced, GoesOn, EndsRun, IsCut, IsEndAt, Executes, Walked, ComesToEnd, ComesToStop, ComesToCut, Leads}
 use Rattle.hy_machine.proofs.Ends.{steps_add}
-use Rattle.hy_machine.proofs.Follows.{told_none}
-
--- what is written after something else
-pub told_more : (old mid new : Option (List ℕ)) (xs ys : List ℕ) → StillTells old mid (Appends xs) → StillTells mid new (Appends ys) → StillTells old new (Appends (xs ++ ys))
-told_more old mid None xs ys a b = tt
-told_more old None (Some new) xs ys a b = absurd b
-told_more None (Some mid) (Some new) xs ys a b = absurd a
-told_more (Some old) (Some mid) (Some new) xs ys a b = rw (b, a) (append_assoc old xs ys)
 
 -- the instruction at a place of the code
 pub at_place : (object : Object) (instrs : List Instr) (place : ℕ) (d : Instr) → instrs ≡ code object → place < length instrs → slice_get (code object) place ≡ Some (get_or instrs place d)

@@ -1,5 +1,5 @@
 -- Whole runs of the program are whole runs of the object.
-use Rattle.std.proofs.Common.{◌≡◌, ◌≢◌, ℕ, zero, suc, ◌+◌, ◌-◌, ◌++◌, List, [], ◌∷◌, length, take, drop, false, Option, Some, None, slice_get, refl, ap, sym, ◌∙◌, subst, arith}
+use Rattle.std.proofs.Common.{◌≡◌, ◌≢◌, inl, ℕ, zero, suc, ◌+◌, ◌-◌, ◌++◌, List, [], ◌∷◌, length, take, drop, false, Option, Some, None, slice_get, refl, ap, sym, ◌∙◌, subst, arith}
 use Rattle.std.proofs.lemmas.List.{append-nil, drop_at}
 use Rattle.hy_base.specs.declared.run.Counts.{Counts}
 use Rattle.hy_base.specs.declared.run.End.{End}
@@ -20,11 +20,11 @@ use Rattle.hy_object.specs.Steps.{no_counts}
 use Rattle.hy_object.proofs.OneEnd as object_ends
 use Rattle.hy_machine.specs.Built.{IsBuilt}
 use Rattle.hy_machine.specs.Machine.{State, begin, seen, steps, words_of}
-use Rattle.hy_machine.specs.Runs.{Appends, IsTaken, IsFront, RanToItsEnd, IsCutOffAt, CountsCause}
 use Rattle.hy_machine.specs.Walks.{IsStart, Unkept, standing, written, piece, IsPart, IsEndAt, ComesToEnd, ComesToStop, ComesToCut, faults_of}
 use Rattle.hy_machine.specs.declared.frame.Halt.TheVariants as halt
+use Rattle.hy_runs.specs.Runs.{told, Appends, IsTaken, IsFront, RanToItsEnd, IsCutOffAt, WasCutOff, faults, CountsCause}
+use Rattle.hy_runs.proofs.Tellings.{told_none}
 use Rattle.hy_machine.proofs.Ends.{steps_add}
-use Rattle.hy_machine.proofs.Follows.{told_none}
 use Rattle.hy_machine.proofs.Simulates.{Alike, alike, runs}
 use Rattle.hy_machine.proofs.Writes.{step_writes}
 
@@ -34,7 +34,7 @@ input_of None = []
 input_of (Some tape) = tape.left
 
 -- nothing is taken
-taken_none : (told : Option Tape) (left : List ℕ) → left ≡ input_of told → StillTells told told (IsTaken (input_of told) (length (input_of told) - length left))
+taken_none : (tape : Option Tape) (left : List ℕ) → left ≡ input_of tape → StillTells tape tape (IsTaken (input_of tape) (length (input_of tape) - length left))
 taken_none None left h = tt
 taken_none (Some tape) left h = let z : length tape.left - length left ≡ 0 = rw h (omega arith) in rw z (record { whole = refl; left = refl; taken = sym (append-nil tape.taken) })
 
@@ -47,8 +47,14 @@ front_of cause.Input front h = absurd h
 front_of cause.Output front h = h
 front_of cause.NoMemory front h = h
 
+-- no input is read
+pub reads_nothing : (c : RunCause) (front : ℕ) → IsPart c front → c ≢ cause.Input
+reads_nothing cause.Input front h = absurd h
+reads_nothing cause.Output front h = λ e. cc
+reads_nothing cause.NoMemory front h = λ e. cc
+
 -- the faults of a run that is cut off
-pub counts_cause : (c : RunCause) (front i k k' : ℕ) → IsPart c front → k' ≡ faults_of k (halt.Cut c) → CountsCause c i i k k'
+pub counts_cause : (c : RunCause) (front i k k' : ℕ) → IsPart c front → k' ≡ faults_of k (halt.Cut c) → CountsCause c (faults i k) (faults i k')
 counts_cause cause.Input front i k k' h e = absurd h
 counts_cause cause.Output front i k k' h e = (refl, e)
 counts_cause cause.NoMemory front i k k' h e = (refl, e)
@@ -67,26 +73,26 @@ begins object (suc n) main m h f fresh = (n, λ input. rw (words_at (slice_get o
 
 module _ (object : Object) (n : ℕ) (in_grammar : IsInGrammar object) (built : IsBuilt object) where
   -- a state that the run comes to is an end
-  ran : (k : ℕ) (told : Option Tape) (old new : Option (List ℕ)) (e : End) (counts : Counts) (u : Unkept) (bytes : List ℕ) →
-      u.input ≡ input_of told → u.output ≡ [] → IsEndAt (steps object k (begin object (input_of told) n)) e counts (written u bytes) → StillTells old new (Appends bytes) →
-      RanToItsEnd object n told told old new (record { end = e; counts = counts })
-  ran k told old new e counts u bytes i o x t =
-      let s : State = steps object k (begin object (input_of told) n) in
+  ran : (k : ℕ) (tape : Option Tape) (old new : Option (List ℕ)) (e : End) (counts : Counts) (u : Unkept) (bytes : List ℕ) →
+      u.input ≡ input_of tape → u.output ≡ [] → IsEndAt (steps object k (begin object (input_of tape) n)) e counts (written u bytes) → StillTells old new (Appends bytes) →
+      RanToItsEnd object n (told tape old) (told tape new) (Ended e) counts
+  ran k tape old new e counts u bytes i o x t =
+      let s : State = steps object k (begin object (input_of tape) n) in
       let wrote : s.output ≡ bytes = x.output ∙ ap (λ l. l ++ bytes) o in
       record {
-        input = input_of told;
-        run = record { output = s.output; stop = Ended e; taken = length (input_of told) - length s.input; counts = s.counts; journal = s.journal };
-        runs = runs object in_grammar built (input_of told) false n _ (k, seen_at (input_of told) s s.stop (Ended e) x.stop);
-        ended = refl;
-        counts = x.counts;
-        taken = taken_none told s.input (x.input ∙ i);
+        input = input_of tape;
+        run = record { output = s.output; stop = Ended e; taken = length (input_of tape) - length s.input; counts = s.counts; journal = s.journal };
+        runs = runs object in_grammar built (input_of tape) false n _ (k, seen_at (input_of tape) s s.stop (Ended e) x.stop);
+        stopped = refl;
+        same_counts = x.counts;
+        taken = taken_none tape s.input (x.input ∙ i);
         output = subst (λ b. StillTells old new (Appends b)) (sym wrote) t;
       }
 
   -- with no turn
-  pub spent : (told : Option Tape) (old : Option (List ℕ)) (counts : Counts) → n ≡ 0 → counts ≡ no_counts → RanToItsEnd object n told told old old (record { end = end.Spent; counts = counts })
-  spent told old counts z c =
-      ran 0 told old old end.Spent counts (record { input = input_of told; output = []; left = 0; journal = [] }) [] refl refl
+  pub spent : (tape : Option Tape) (old : Option (List ℕ)) (counts : Counts) → n ≡ 0 → counts ≡ no_counts → RanToItsEnd object n (told tape old) (told tape old) (Ended end.Spent) counts
+  spent tape old counts z c =
+      ran 0 tape old old end.Spent counts (record { input = input_of tape; output = []; left = 0; journal = [] }) [] refl refl
       (rw (z, c) (record { stop = refl; counts = refl; input = refl; output = refl })) (told_none old)
 
   -- what the next step writes
@@ -100,13 +106,13 @@ module _ (object : Object) (n : ℕ) (in_grammar : IsInGrammar object) (built : 
       sym ((λ j. drop (length (now.output j)) ((one.output ∙ step_writes object s going) j)) ∙ drop_at s.output (piece object s) (length s.output) refl)
 
   module _ (main : Fun) (m : Machine) (some : n ≢ 0) (first : slice_get object.funs 0 ≡ Some main) (fresh : IsStart m main.words) where
-    pub ended : (m' : Machine) (told : Option Tape) (old new : Option (List ℕ)) (e : End) → ComesToEnd object m m' old new e →
-        RanToItsEnd object n told told old new (record { end = e; counts = m'.counts })
-    ended m' told old new e x =
+    pub ended : (m' : Machine) (tape : Option Tape) (old new : Option (List ℕ)) (e : End) → ComesToEnd object m m' old new e →
+        RanToItsEnd object n (told tape old) (told tape new) (Ended e) m'.counts
+    ended m' tape old new e x =
         let b = begins object n main m some first fresh in
-        let u : Unkept = start b.0 (input_of told) in
-        ran x.count told old new e m'.counts u x.bytes refl refl
-        (subst (λ s. IsEndAt (steps object x.count s) e m'.counts (written u x.bytes)) (sym (b.1 (input_of told))) (x.ends u)) x.told
+        let u : Unkept = start b.0 (input_of tape) in
+        ran x.count tape old new e m'.counts u x.bytes refl refl
+        (subst (λ s. IsEndAt (steps object x.count s) e m'.counts (written u x.bytes)) (sym (b.1 (input_of tape))) (x.ends u)) x.told
 
     pub never_stuck : (why : Kind) → IsSafe object → ComesToStop object m why → ⊥
     never_stuck why safe x =
@@ -114,11 +120,11 @@ module _ (object : Object) (n : ℕ) (in_grammar : IsInGrammar object) (built : 
         safe [] false n x.count why x.at
         ((alike object in_grammar built [] false n x.count).stop ∙ (ap (λ s. (steps object x.count s).stop) (b.1 []) ∙ x.stops (start b.0 [])))
 
-    pub cut_off : (m' : Machine) (told : Option Tape) (old new : Option (List ℕ)) (c : RunCause) → ComesToCut object m m' old new c →
-        IsCutOffAt object n told told old new (record { cause = c; counts = m'.counts })
-    cut_off m' told old new c x =
+    cut_at : (m' : Machine) (tape : Option Tape) (old new : Option (List ℕ)) (c : RunCause) → ComesToCut object m m' old new c →
+        IsCutOffAt object n (told tape old) (told tape new) (record { cause = c; counts = m'.counts })
+    cut_at m' tape old new c x =
         let b = begins object n main m some first fresh in
-        let input : List ℕ = input_of told in
+        let input : List ℕ = input_of tape in
         let u : Unkept = start b.0 input in
         let s : State = steps object x.count (begin object input n) in
         let same : s ≡ standing m' (written u x.bytes) = ap (steps object x.count) (b.1 input) ∙ x.path u in
@@ -131,7 +137,13 @@ module _ (object : Object) (n : ℕ) (in_grammar : IsInGrammar object) (built : 
           short = front_of c x.front x.short;
           going = now.stop ∙ going;
           counts = ap (λ s. s.counts) (sym same) ∙ sym now.counts;
-          taken = taken_none told (after object input false n x.count).input (now.input ∙ ap (λ s. s.input) same);
+          taken = taken_none tape (after object input false n x.count).input (now.input ∙ ap (λ s. s.input) same);
           output = subst (λ bytes. StillTells old new (Appends bytes)) (λ j. sym now.output j ++ take x.front (piece_is input x.count going j))
               (subst (λ s. StillTells old new (Appends (s.output ++ take x.front (piece object s)))) (sym same) (x.told (written u x.bytes)));
         }
+
+    pub cut_off : (m' : Machine) (tape : Option Tape) (old new : Option (List ℕ)) (c : RunCause) → ComesToCut object m m' old new c →
+        WasCutOff object n (told tape old) (told tape new) (record { cause = c; counts = m'.counts })
+    cut_off m' tape old new cause.Input x = absurd x.short
+    cut_off m' tape old new cause.Output x = cut_at m' tape old new cause.Output x
+    cut_off m' tape old new cause.NoMemory x = inl (cut_at m' tape old new cause.NoMemory x)

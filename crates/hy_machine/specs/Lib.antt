@@ -1,5 +1,5 @@
 pub mod Built
+pub mod Endings
 pub mod Frames
 pub mod Machine
-pub mod Runs
 pub mod Walks

@@ -1,5 +1,5 @@
 -- What the program keeps of a state, and how its instructions follow the machine's.
-use Rattle.std.specs.Prelude.{replicate, ◌≡◌, ◌≢◌, ℕ, suc, ◌+◌, List, [], ◌++◌, take, Option, Some, None, Result, Ok, Err, ℤ, slice_get}
+use Rattle.std.specs.Prelude.{replicate, ◌≡◌, ◌≢◌, ℕ, ◌+◌, List, [], ◌++◌, take, Option, Some, None, Result, Ok, Err, ℤ, slice_get}
 use Rattle.hy_base.specs.declared.run.End.{End}
 use Rattle.hy_base.specs.declared.run.End.TheVariants as end
 use Rattle.hy_base.specs.declared.run.Counts.{Counts}
@@ -19,7 +19,8 @@ use Rattle.hy_object.specs.States.{Event, Ended, Stuck}
 use Rattle.hy_object.specs.Words.{line_of}
 use Rattle.hy_machine.specs.Machine.{Unset, Word, State, Cell, stuck, does, steps, code}
 use Rattle.hy_machine.specs.Frames.{word_of}
-use Rattle.hy_machine.specs.Runs.{Appends}
+use Rattle.hy_runs.specs.Lines.{out_faults}
+use Rattle.hy_runs.specs.Runs.{Appends}
 
 -- How much of a line may have gone out before an instruction was cut off. None that is built reads.
 abbrev pub IsPart : RunCause → ℕ → Type 0
@@ -106,9 +107,7 @@ Executes object i m m' old new (Err (halt.Cut c)) = IsCut i m m' old new c
 abbrev pub faults_of : ℕ → Halt → ℕ
 faults_of before (halt.Ended e) = before
 faults_of before (halt.Stuck why) = before
-faults_of before (halt.Cut cause.Input) = before
-faults_of before (halt.Cut cause.Output) = suc before
-faults_of before (halt.Cut cause.NoMemory) = before
+faults_of before (halt.Cut c) = out_faults before c
 
 abbrev pub faults_in : ℕ → Result (Unit {0}) Halt → ℕ
 faults_in before (Ok done) = before

@@ -1,9 +1,9 @@
 // What memory holds after a call, and one instruction from the start of a run.
 ghost use Rattle.std.specs.Prelude.{◌≡◌};
 
-use hy_base::NoMemory;
+use hy_base::{NoMemory, TrapKind};
 use hy_object::{Fun, Place, Way};
-use hy_store::{Blocks, Cell, Halt, Slot, Store};
+use hy_store::{Blocks, Cell, Halt, Operation, Slot, Store, calculate};
 use sqlite_items::Items;
 use std::alloc::Global;
 use std::test::Fail;
@@ -103,5 +103,21 @@ fn an_unset_word_is_stuck(rt: HostRuntime) -> Result<(), Fail> {
         return Err(Fail::from("no memory"));
     };
     assert_eq!(rt; store.read_word(&main, 0), Err(hy_object::Kind::Unset));
+    Ok(())
+}
+
+#[test]
+fn numbers_trap_where_they_do_not_fit(rt: HostRuntime) -> Result<(), Fail> {
+    assert_eq!(rt;
+        calculate(Operation::Add, i64::MAX, 1),
+        Err(TrapKind::Overflow)
+    );
+    assert_eq!(rt;
+        calculate(Operation::Rem, i64::MIN, -1),
+        Err(TrapKind::Overflow)
+    );
+    assert_eq!(rt; calculate(Operation::Div, 7, 0), Err(TrapKind::Divide));
+    assert_eq!(rt; calculate(Operation::Div, -7, 2), Ok(-3));
+    assert_eq!(rt; calculate(Operation::Rem, -7, 2), Ok(-1));
     Ok(())
 }

@@ -2,6 +2,7 @@ use Rattle.hy_driver.proofs.Ends.{answers_0, answers_1, answers_3, answers_4}
 use Rattle.hy_driver.proofs.Causes.{leaves_all_alone, says_what_it_answers, counts_one_fault, answers_2, answers_5, answers_6, answers_7}
 use Rattle.hy_driver.proofs.ThisRun.{runs_as_it_means, writes_a_beginning}
 use Rattle.hy_driver.proofs.Clauses.{refuses_the_first, returns_the_object, returns_no_other}
+use Rattle.hy_driver.proofs.Executing.{executes_the_object, refuses_the_file, keeps_to_the_run, returns_the_bytes, answers_its_end, answers_9, answers_10}
 use Rattle.hy_driver.proofs.top.hyloc.Goals as goal
 
 pub returns-clause-refusal : goal.returns-clause-refusal
@@ -51,3 +52,24 @@ returns-clause-status_4 g c = answers_4 _ (g.F.Files.load_may_fail c.args.files.
 
 pub returns-clause-status_1 : goal.returns-clause-status_1
 returns-clause-status_1 g c = answers_1 _ (g.F.Files.load_may_fail c.args.files.now) _ _ _ _ _ _ _ _ c.go-due.ensures.way c.tell.ensures (refuses_the_first _ (g.F.Files.load_may_fail c.args.files.now) _ _ _ _ _ _ _ _ c.go-due.ensures.way c.tell.ensures)
+
+pub returns-clause-executes : goal.returns-clause-executes
+returns-clause-executes g c = executes_the_object _ (g.F.Files.load_may_fail c.args.files.now) _ _ _ _ _ _ _ _ c.one_spelling.ensures c.go-due.ensures.way c.tell.ensures
+
+pub returns-clause-bad_file : goal.returns-clause-bad_file
+returns-clause-bad_file g c = refuses_the_file _ (g.F.Files.load_may_fail c.args.files.now) _ _ _ _ _ _ _ _ c.one_place.ensures c.go-due.ensures.way c.tell.ensures
+
+pub returns-clause-keeps_to_the_run : goal.returns-clause-keeps_to_the_run
+returns-clause-keeps_to_the_run g c = keeps_to_the_run _ (g.F.Files.load_may_fail c.args.files.now) _ _ _ _ _ _ _ _ c.one_spelling.ensures c.go-due.ensures.way c.tell.ensures
+
+pub returns-clause-bytes : goal.returns-clause-bytes
+returns-clause-bytes g c = returns_the_bytes _ (g.F.Files.load_may_fail c.args.files.now) _ _ _ _ _ _ _ _ c.go-due.ensures.way c.tell.ensures
+
+pub returns-clause-its_end : goal.returns-clause-its_end
+returns-clause-its_end g c = answers_its_end _ (g.F.Files.load_may_fail c.args.files.now) _ _ _ _ _ _ _ _ c.one_run.ensures c.one_spelling.ensures c.go-due.ensures.way c.tell.ensures
+
+pub returns-clause-status_9 : goal.returns-clause-status_9
+returns-clause-status_9 g c = answers_9 _ (g.F.Files.load_may_fail c.args.files.now) _ _ _ _ _ _ _ _ c.one_run.ensures c.one_spelling.ensures c.go-due.ensures.way c.tell.ensures
+
+pub returns-clause-status_10 : goal.returns-clause-status_10
+returns-clause-status_10 g c = answers_10 _ (g.F.Files.load_may_fail c.args.files.now) _ _ _ _ _ _ _ _ c.one_place.ensures c.go-due.ensures.way c.tell.ensures

@@ -1,0 +1,10 @@
+pub mod Known
+pub mod Lent
+pub mod Lifting
+pub mod Turning
+pub mod Coming
+pub mod Whole
+pub mod Calling
+pub mod Sleepers
+pub mod Printing
+pub mod Reading

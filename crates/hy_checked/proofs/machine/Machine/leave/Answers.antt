@@ -1,0 +1,22 @@
+use Rattle.std.proofs.Common.{Some, Err, refl, subst, sym}
+use Rattle.hy_base.specs.declared.run.End.{End}
+use Rattle.hy_object.specs.declared.instr.Instr.TheVariants as instr
+use Rattle.hy_object.specs.Controls.{leave}
+use Rattle.hy_store.specs.declared.halt.Halt.{Halt}
+use Rattle.hy_store.specs.declared.halt.Halt.TheVariants as halt
+use Rattle.hy_store.specs.Passes.{Passes, Returned, Waits}
+use Rattle.hy_checked.specs.Answers.{Answers}
+use Rattle.hy_checked.proofs.Calling.{next_there, passes_halts, popped, returned, waits_so}
+use Rattle.hy_checked.proofs.machine.Machine.leave.Goals as goal
+
+pub known_fun-next-requires : goal.known_fun-next-requires
+known_fun-next-requires c = next_there c.args.object.now c.args.self.now c.args.fun.now (instr.Return c.args.word) c.in-Some.caller c.pop.new.self.items c.requires c.in-Some.ensures.items
+
+pub returns-in-Ok : goal.returns-in-Ok
+returns-in-Ok c = returned c.args.object.now c.args.self.now _ c.args.fun.now c.known_fun-next.result.now c.in-Some.caller c.pop.new.self.items (λ s. leave s c.args.word) c.requires.fun_is c.known_fun-next.ensures c.in-Some.ensures.items c.in-Ok.ensures refl refl refl refl refl
+
+pub returns-in-Err-Ended : goal.returns-in-Err-Ended
+returns-in-Err-Ended c = subst (λ (e : End). Answers c.args.object.now c.args.self.now (record c.args.self.now { store = c.leave.new.self; callers = c.pop.new.self }) (Err (halt.Ended e)) (λ s. leave s c.args.word)) (sym c.in-Err-Ended.end-is) (
+    passes_halts c.args.object.now c.args.self.now (record c.args.self.now { store = c.leave.new.self; callers = c.pop.new.self }) c.args.fun.now c.known_fun-next.result.now c.leave.new.self (halt.Ended c.in-Err-Ended.end) (Waits (Some c.in-Some.caller.frame) c.known_fun-next.result.now) Returned (λ s. leave s c.args.word) c.requires.fun_is
+    (subst (λ (h : Halt). Passes c.args.fun.now c.known_fun-next.result.now c.args.self.now.store c.leave.new.self (Err h) (Waits (Some c.in-Some.caller.frame) c.known_fun-next.result.now) Returned (λ s. leave s c.args.word)) c.in-Err-Ended.field-0-is c.in-Err-Ended.ensures)
+    (λ s st. waits_so c.args.object.now s c.in-Some.caller c.pop.new.self.items c.known_fun-next.result.now (popped c.args.object.now c.in-Some.caller c.pop.new.self.items c.args.self.now.callers.items s.callers st.callers c.in-Some.ensures.items) c.known_fun-next.ensures) (λ e h. refl) (λ no. absurd (no c.in-Err-Ended.end refl)))

@@ -1,0 +1,203 @@
+// Calls, projections and returns.
+ghost use Rattle.std.specs.Prelude.{◌≡◌, ◌∷◌, ◌++◌, ◌+◌, ◌<◌, ◌^◌, [], OnOk, IsSome, Some, slice_get};
+ghost use Rattle.hy_object.specs.declared.instr.Instr.TheVariants as instr;
+ghost use Rattle.hy_object.specs.Checks.{take_turn};
+ghost use Rattle.hy_object.specs.Controls.{call, leave, project, start};
+ghost use Rattle.hy_store.specs.Opened.{told_range};
+ghost use Rattle.hy_store.specs.Sees.{told_role};
+ghost use Rattle.hy_checked.specs.Answers.{Answers};
+ghost use Rattle.hy_checked.specs.Standing.{IsAt};
+ghost use Rattle.hy_checked.specs.Starting.{CanStart};
+
+use crate::machine::{Machine, Waiting};
+use hy_base::{End, NoMemory, RunCause};
+use hy_object::{Fun, Kind, Object};
+use hy_store::{Halt, Reach, Role, is_empty};
+use std::alloc::Global;
+
+/// What a call or a projection starts: the function of that number, with the caller's slots from `slot` on and the words that
+/// are reached.
+#[derive(Clone, Copy, Debug)]
+pub struct Start {
+    pub number: u32,
+    pub slot: u32,
+    pub reach: Reach,
+    pub role: Role,
+}
+
+/// Keeps one more activation; the only refusal is want of memory.
+pub fn keep(kept: &mut Vec<Waiting>, one: Waiting) -> Result<(), NoMemory>
+    ensures { OnOk result (kept.new.items ≡ kept.old.items ++ one ∷ []) }
+{
+    kept.push(one)?;
+    Ok(())
+}
+
+/// A function that is known to be there.
+pub fn known_fun(object: &Object, number: u32) -> &Fun
+    requires { IsSome (slice_get object.now.funs number) }
+    ensures { Some result.now ≡ slice_get object.now.funs number }
+{
+    let Some(fun) = object.funs.get(number as usize) else {
+        unreachable!()
+    };
+    fun
+}
+
+impl Machine {
+    /// The running activation, as it is kept while another one runs. It goes on behind the instruction.
+    pub fn waiting(&self) -> Waiting
+        requires { self.now.place + 1 < 2 ^ 32 }
+        ensures { result ≡ record { number = self.now.number; place = self.now.place + 1; frame = self.now.store.frame } }
+    {
+        Waiting {
+            number: self.number,
+            place: self.place + 1,
+            frame: self.store.frame,
+        }
+    }
+
+    /// Calls a function.
+    pub fn call(
+        &mut self,
+        alloc: Global,
+        object: &Object,
+        fun: &Fun,
+        number: u32,
+        slot: u32,
+        word: u32,
+    ) -> Result<(), Halt>
+        requires { IsAt object.now self.old fun.now (instr.Call number slot word) }
+        ensures { Answers object.now self.old self.new result (λ s. call object.now s number slot word) }
+    {
+        let callee = known_fun(object, number);
+        let reach = self.store.hands_over(fun, callee, slot, word)?;
+        let role = Role::Called(word);
+        let what = Start {
+            number,
+            slot,
+            reach,
+            role,
+        };
+        self.start(alloc, object, fun, callee, what)
+    }
+
+    /// Starts a subscript, which hands out to the slot `into`.
+    pub fn project(
+        &mut self,
+        alloc: Global,
+        object: &Object,
+        fun: &Fun,
+        number: u32,
+        slot: u32,
+        word: u32,
+        into: u32,
+    ) -> Result<(), Halt>
+        requires { IsAt object.now self.old fun.now (instr.Project number slot word into) }
+        ensures { Answers object.now self.old self.new result (λ s. project object.now s number slot word into) }
+    {
+        let callee = known_fun(object, number);
+        let reach = self.store.hands_over(fun, callee, slot, word)?;
+        if is_empty(self.store.frames.slot(self.store.frame, into)) {
+            let role = Role::Projected(into);
+            let what = Start {
+                number,
+                slot,
+                reach,
+                role,
+            };
+            return self.start(alloc, object, fun, callee, what);
+        }
+        Err(Halt::Stuck(Kind::Slot))
+    }
+
+    // Takes a turn and starts a function.
+    fn start(
+        &mut self,
+        alloc: Global,
+        object: &Object,
+        fun: &Fun,
+        callee: &Fun,
+        what: Start,
+    ) -> Result<(), Halt>
+        requires { CanStart object.now self.old fun.now callee.now what }
+        ensures { Answers object.now self.old self.new result (λ s. take_turn s (λ t. start t what.number callee.now what.slot (told_range what.reach.range) (told_role what.role))) }
+    {
+        let _object = object;
+        let _fun = fun;
+        if self.left == 0 {
+            return Err(Halt::Ended(End::Spent));
+        }
+        let caller = self.waiting();
+        keep(&mut self.callers, caller)?;
+        let counts = self.store.counts;
+        if let Err(_) = self
+            .store
+            .start(alloc, callee, what.slot, what.reach, what.role)
+        {
+            self.store.counts = counts;
+            return Err(Halt::Cut(RunCause::NoMemory));
+        }
+        self.number = what.number;
+        self.place = 0;
+        self.left -= 1;
+        Ok(())
+    }
+
+    /// Ends the running activation with its result, and its caller goes on.
+    pub fn leave(
+        &mut self,
+        alloc: Global,
+        object: &Object,
+        fun: &Fun,
+        word: u32,
+    ) -> Result<(), Halt>
+        requires { IsAt object.now self.old fun.now (instr.Return word) }
+        ensures { Answers object.now self.old self.new result (λ s. leave s word) }
+    {
+        if self.callers.is_empty() {
+            return self.leave_main(alloc, object, fun, word);
+        }
+        let Some(caller) = self.callers.pop() else {
+            unreachable!()
+        };
+        let next = known_fun(object, caller.number);
+        let counts = self.store.counts;
+        match self.store.leave(alloc, fun, word, next, Some(caller.frame)) {
+            Ok(()) => {
+                self.number = caller.number;
+                self.place = caller.place;
+                Ok(())
+            }
+            Err(Halt::Ended(end)) => Err(Halt::Ended(end)),
+            Err(halt) => {
+                self.store.counts = counts;
+                Err(halt)
+            }
+        }
+    }
+
+    // Ends the last activation, for which none waits.
+    fn leave_main(
+        &mut self,
+        alloc: Global,
+        object: &Object,
+        fun: &Fun,
+        word: u32,
+    ) -> Result<(), Halt>
+        requires here { IsAt object.now self.old fun.now (instr.Return word) }
+        requires none { self.old.callers.items ≡ [] }
+        ensures { Answers object.now self.old self.new result (λ s. leave s word) }
+    {
+        let _object = object;
+        let counts = self.store.counts;
+        match self.store.leave(alloc, fun, word, fun, None) {
+            Ok(()) => unreachable!(),
+            Err(Halt::Ended(end)) => Err(Halt::Ended(end)),
+            Err(halt) => {
+                self.store.counts = counts;
+                Err(halt)
+            }
+        }
+    }
+}
