@@ -5,7 +5,7 @@
 #
 #     sh tests/bench/parser.sh
 . "$(dirname "$0")/repository.sh"
-bench_repository hy_base hy_lexer hy_tree hy_parser <<'END'
+bench_repository hy_base hy_lexer hy_tree hy_grammar hy_grammar_laws hy_phrases hy_expressions hy_statements hy_parser <<'END'
 //! Parses what it reads as often as its file `times` says, and prints the time.
 #![tactic(auto)]
 

@@ -7,8 +7,8 @@ use Rattle.hy_base.specs.First.{Refusal, Precedes, IsFirst}
 use Rattle.hy_base.specs.declared.refusal.Rule.TheVariants.{Z1}
 use Rattle.hy_lexer.specs.Tokens as L
 use Rattle.hy_lexer.specs.declared.token.Token.{Token}
-use Rattle.hy_parser.specs.Grammar.{IsProgram}
-use Rattle.hy_parser.specs.Parses as P
+use Rattle.hy_grammar.specs.Grammar.{IsProgram}
+use Rattle.hy_grammar.specs.Parses as P
 use Rattle.hy_tree.specs.Findings as N
 use Rattle.hy_tree.specs.Numbers.{number_program}
 use Rattle.hy_tree.specs.Tree as T

@@ -4,7 +4,7 @@ use Rattle.hy_base.specs.First.{Refusal, IsFirst}
 use Rattle.hy_base.specs.declared.refusal.Rule.TheVariants.{Z1}
 use Rattle.hy_lexer.specs.Tokens as L
 use Rattle.hy_lexer.specs.declared.token.Token.{Token}
-use Rattle.hy_parser.specs.Parses as P
+use Rattle.hy_grammar.specs.Parses as P
 use Rattle.hy_tree.specs.Findings as N
 use Rattle.hy_tree.specs.Tree as T
 use Rattle.hy_front.specs.Unbuilt as X

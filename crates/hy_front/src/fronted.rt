@@ -9,8 +9,9 @@ ghost use Rattle.hy_front.specs.Unbuilt.{Breaks as BreaksForm};
 
 use crate::declaration::first_unbuilt;
 use hy_base::{Fault, Rule, Span};
+use hy_grammar_laws::one_program;
 use hy_lexer::{lex, one_list_of_tokens, spans_are_apart};
-use hy_parser::{one_program, parse};
+use hy_parser::parse;
 use hy_scope::resolve;
 use hy_tree::{Meant, Program};
 use std::alloc::Global;

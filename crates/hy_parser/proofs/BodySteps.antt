@@ -6,16 +6,16 @@ use Rattle.hy_lexer.specs.declared.token.TokenKind.{TokenKind}
 use Rattle.hy_lexer.specs.declared.token.TokenKind.TheVariants as k
 use Rattle.hy_tree.specs.Tree as T
 use Rattle.hy_tree.specs.declared.operator.Mode.{Mode}
-use Rattle.hy_parser.specs.DeclSteps.{sort_in, with_effect, at_colon, at_effect, at_params_read, at_result, at_body, body_opened, method_body, plain_only, at_callable_read}
+use Rattle.hy_grammar.specs.DeclSteps.{sort_in, with_effect, at_colon, at_effect, at_params_read, at_result, at_body, body_opened, method_body, plain_only, at_callable_read}
 use Rattle.hy_parser.specs.Headings.{Fits, callable_done, effect_in, has_body, may_vary}
-use Rattle.hy_parser.specs.Machine.{step, finish, walk}
-use Rattle.hy_parser.specs.Nodes as node
+use Rattle.hy_grammar.specs.Machine.{step, finish, walk}
+use Rattle.hy_grammar.specs.Nodes as node
 use Rattle.hy_parser.specs.Separated.{ahead}
-use Rattle.hy_parser.specs.Stack.{Home, InFile, InOwner, Sort, FileFunction, Method, Requirement, Subscript, Deinit, Head, depth, depth_home, depth_head, ParamsRead, EffectRead, ResultRead, TypeWanted, ForResult, BodyOpened}
-use Rattle.hy_parser.specs.StmtSteps.{callable_of, called_in}
-use Rattle.hy_parser.specs.Wanted.{Sees}
+use Rattle.hy_grammar.specs.Stack.{Home, InFile, InOwner, Sort, FileFunction, Method, Requirement, Subscript, Deinit, Head, depth, depth_home, depth_head, ParamsRead, EffectRead, ResultRead, TypeWanted, ForResult, BodyOpened}
+use Rattle.hy_grammar.specs.StmtSteps.{callable_of, called_in}
+use Rattle.hy_phrases.specs.Wanted.{Sees}
 use Rattle.hy_parser.proofs.Follows.{alike_on, on_each, none_ahead}
-use Rattle.hy_parser.proofs.Walks.{Follows, Wants, alike_without}
+use Rattle.hy_phrases.proofs.Walks.{Follows, Wants, alike_without}
 
 -- EFFECT AND RESULT
 

@@ -7,18 +7,18 @@ use Rattle.hy_lexer.specs.declared.token.TokenKind.TheVariants as k
 use Rattle.hy_tree.specs.declared.name.Name.{Name}
 use Rattle.hy_parser.specs.declared.heading.Sort as declared
 use Rattle.hy_parser.specs.declared.heading.Sort.TheVariants as sort
-use Rattle.hy_parser.specs.declared.stop.Stop.{Stop}
-use Rattle.hy_parser.specs.declared.stop.Stop.TheVariants as stop
-use Rattle.hy_parser.specs.DeclSteps.{head_of, sort_in, unnamed, at_subscript_word}
+use Rattle.hy_phrases.specs.declared.stop.Stop.{Stop}
+use Rattle.hy_phrases.specs.declared.stop.Stop.TheVariants as stop
+use Rattle.hy_grammar.specs.DeclSteps.{head_of, sort_in, unnamed, at_subscript_word}
 use Rattle.hy_parser.specs.Headings.{sort_of, Fits, is_file}
-use Rattle.hy_parser.specs.Machine.{step, finish, Unexpected, most_levels, walk}
-use Rattle.hy_parser.specs.Nodes as node
-use Rattle.hy_parser.specs.Reads.{Halts}
-use Rattle.hy_parser.specs.Stack.{Start, Home, InFile, InOwner, Subscript, Head, depth_home, FunctionWord, FunctionName, SubscriptWord, ParamsWanted, ParamsOpened}
-use Rattle.hy_parser.specs.Wanted.{Sees, LacksName, TakesName, MissesName}
+use Rattle.hy_grammar.specs.Machine.{step, finish, Unexpected, most_levels, walk}
+use Rattle.hy_grammar.specs.Nodes as node
+use Rattle.hy_phrases.specs.Reads.{Halts}
+use Rattle.hy_grammar.specs.Stack.{Start, Home, InFile, InOwner, Subscript, Head, depth_home, FunctionWord, FunctionName, SubscriptWord, ParamsWanted, ParamsOpened}
+use Rattle.hy_phrases.specs.Wanted.{Sees, LacksName, TakesName, MissesName}
 use Rattle.hy_parser.proofs.Follows.{OnNext, stops_on}
-use Rattle.hy_parser.proofs.Walks.{Wants, WantsName, over, alike}
-use Rattle.hy_parser.proofs.WantedKinds.{no_left_paren, no_text}
+use Rattle.hy_phrases.proofs.Walks.{Wants, WantsName, over, alike}
+use Rattle.hy_phrases.proofs.WantedKinds.{no_left_paren, no_text}
 
 pub function_names : (home : Home) (start : Start) (keyword : Span) → WantsName (FunctionWord home start keyword) (λ n. FunctionName (head_of home start (sort_in home) keyword (Some n)))
 unfolding step finish

@@ -9,19 +9,19 @@ use Rattle.hy_tree.specs.declared.name.Name.{Name}
 use Rattle.hy_tree.specs.declared.name.NameUse.{NameUse}
 use Rattle.hy_parser.specs.declared.heading.DeclWord.{DeclWord}
 use Rattle.hy_parser.specs.declared.heading.DeclWord.TheVariants as begun
-use Rattle.hy_parser.specs.declared.stop.Stop.{Stop}
-use Rattle.hy_parser.specs.DeclSteps.{begins_at, at_decl, at_file, at_file_done, decl_of, at_type_name, at_trait_listed}
+use Rattle.hy_phrases.specs.declared.stop.Stop.{Stop}
+use Rattle.hy_grammar.specs.DeclSteps.{begins_at, at_decl, at_file, at_file_done, decl_of, at_type_name, at_trait_listed}
 use Rattle.hy_parser.specs.Headings.{decl_word, decl_state, separates, separator_next, TakesSeparator}
-use Rattle.hy_parser.specs.Machine.{step, finish, accepted_within, Unexpected, most_levels, walk}
-use Rattle.hy_parser.specs.Nodes as node
-use Rattle.hy_parser.specs.Reads.{Halts}
+use Rattle.hy_grammar.specs.Machine.{step, finish, accepted_within, Unexpected, most_levels, walk}
+use Rattle.hy_grammar.specs.Nodes as node
+use Rattle.hy_phrases.specs.Reads.{Halts}
 use Rattle.hy_parser.specs.Separated.{ahead, TakesSome, TakesPublic}
-use Rattle.hy_parser.specs.Stack.{Start, Opening, Subject, TypeSubject, ConformanceSubject, TraitOwner, ListedOwner, depth, FileReady, FileDone, PublicDecl, DeclRead, TypeWord, TypeName, TraitWord, TraitName, ConformanceWord, ConformanceName, TraitWanted, TraitListed, MembersReady}
-use Rattle.hy_parser.specs.Wanted.{Sees, Takes, Misses, tail}
+use Rattle.hy_grammar.specs.Stack.{Start, Opening, Subject, TypeSubject, ConformanceSubject, TraitOwner, ListedOwner, depth, FileReady, FileDone, PublicDecl, DeclRead, TypeWord, TypeName, TraitWord, TraitName, ConformanceWord, ConformanceName, TraitWanted, TraitListed, MembersReady}
+use Rattle.hy_phrases.specs.Wanted.{Sees, Takes, Misses, tail}
 use Rattle.hy_parser.proofs.MemberSteps.{same_first, count_is}
 use Rattle.hy_parser.proofs.Follows.{OnNext, stops_on, none_ahead}
-use Rattle.hy_parser.proofs.Walks.{Follows, Wants, WantsName, fits, moves, over, alike_at, alike_without}
-use Rattle.hy_parser.proofs.WantedKinds.{no_colon, no_left_brace, no_text}
+use Rattle.hy_phrases.proofs.Walks.{Follows, Wants, WantsName, fits, moves, over, alike_at, alike_without}
+use Rattle.hy_phrases.proofs.WantedKinds.{no_colon, no_left_brace, no_text}
 
 -- TYPES, TRAITS AND CONFORMANCES
 

@@ -4,15 +4,15 @@ use Rattle.hy_lexer.specs.declared.token.Token.{Token}
 use Rattle.hy_lexer.specs.declared.token.TokenKind.{TokenKind}
 use Rattle.hy_lexer.specs.declared.token.TokenKind.TheVariants as k
 use Rattle.hy_tree.specs.declared.name.Name.{Name}
-use Rattle.hy_parser.specs.declared.stop.Stop.{Stop}
-use Rattle.hy_parser.specs.declared.stop.Stop.TheVariants as stop
-use Rattle.hy_parser.specs.Machine.{step, finish, accepted_within, Unexpected, most_levels, walk}
-use Rattle.hy_parser.specs.Reads.{Halts, Reads, ReadsCounted}
-use Rattle.hy_parser.specs.Stack.{State, depth}
-use Rattle.hy_parser.specs.Nodes as node
+use Rattle.hy_phrases.specs.declared.stop.Stop.{Stop}
+use Rattle.hy_phrases.specs.declared.stop.Stop.TheVariants as stop
+use Rattle.hy_grammar.specs.Machine.{step, finish, accepted_within, Unexpected, most_levels, walk}
+use Rattle.hy_phrases.specs.Reads.{Halts, Reads, ReadsCounted}
+use Rattle.hy_grammar.specs.Stack.{State, depth}
+use Rattle.hy_grammar.specs.Nodes as node
 use Rattle.hy_parser.specs.Separated.{ahead}
-use Rattle.hy_parser.specs.Wanted.{Sees, TakesName, LacksName, MissesName}
-use Rattle.hy_parser.proofs.Walks.{leads, from_there, over, alike, halts, lacks}
+use Rattle.hy_phrases.specs.Wanted.{Sees, TakesName, LacksName, MissesName}
+use Rattle.hy_phrases.proofs.Walks.{leads, from_there, over, alike, halts, lacks}
 
 pub follows : {A B X Y : Type 0} (levels inner : ℕ) (plain : A → B) (need : X → State) (f : X → Y) (need' : Y → State) (have : B → Y → State) (old mid new : List Token) (r : Result A Stop)
     → ((total : ℕ) (x : X) → levels + depth (need x) ≡ most_levels → walk total (need x) old ≡ walk total (need' (f x)) mid)

@@ -7,19 +7,19 @@ use Rattle.hy_tree.specs.declared.name.Name.{Name}
 use Rattle.hy_tree.specs.declared.name.NameUse.{NameUse}
 use Rattle.hy_parser.specs.declared.heading.Sort as declared
 use Rattle.hy_parser.specs.declared.heading.Sort.TheVariants as sort
-use Rattle.hy_parser.specs.declared.mark.Mark.TheVariants as m
-use Rattle.hy_parser.specs.DeclSteps.{with_generic, generics_of, at_function_name, at_generic_name, at_bound_listed}
+use Rattle.hy_phrases.specs.declared.mark.Mark.TheVariants as m
+use Rattle.hy_grammar.specs.DeclSteps.{with_generic, generics_of, at_function_name, at_generic_name, at_bound_listed}
 use Rattle.hy_parser.specs.Headings.{sort_of, generic_done}
-use Rattle.hy_parser.specs.Kinds as kind
-use Rattle.hy_parser.specs.Machine.{step, finish, most_levels, walk}
-use Rattle.hy_parser.specs.Nodes as node
+use Rattle.hy_grammar.specs.Kinds as kind
+use Rattle.hy_grammar.specs.Machine.{step, finish, most_levels, walk}
+use Rattle.hy_grammar.specs.Nodes as node
 use Rattle.hy_parser.specs.Separated.{GoesOn}
-use Rattle.hy_parser.specs.Stack.{Sort, FileFunction, Method, Requirement, Subscript, Deinit, Head, State, depth_head, FunctionName, GenericWanted, GenericName, BoundWanted, BoundListed, ParamsWanted, ParamsOpened}
-use Rattle.hy_parser.specs.Wanted.{Sees}
+use Rattle.hy_grammar.specs.Stack.{Sort, FileFunction, Method, Requirement, Subscript, Deinit, Head, State, depth_head, FunctionName, GenericWanted, GenericName, BoundWanted, BoundListed, ParamsWanted, ParamsOpened}
+use Rattle.hy_phrases.specs.Wanted.{Sees}
 use Rattle.hy_parser.proofs.Separators.{Separates, on_comma, on_close}
 use Rattle.hy_parser.proofs.Follows.{alike_on, on_each}
-use Rattle.hy_parser.proofs.Walks.{WantsName, alike_without}
-use Rattle.hy_parser.proofs.WantedKinds.{no_text}
+use Rattle.hy_phrases.proofs.Walks.{WantsName, alike_without}
+use Rattle.hy_phrases.proofs.WantedKinds.{no_text}
 
 -- TYPE PARAMETERS
 

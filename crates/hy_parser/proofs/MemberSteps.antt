@@ -12,16 +12,16 @@ use Rattle.hy_parser.specs.declared.heading.OwnerSort.{OwnerSort}
 use Rattle.hy_parser.specs.declared.heading.OwnerSort.TheVariants as owner
 use Rattle.hy_parser.specs.declared.heading.Sort as declared
 use Rattle.hy_parser.specs.declared.heading.Sort.TheVariants as sort
-use Rattle.hy_parser.specs.DeclSteps.{begins_at, sort_in, at_member, at_trait_member, at_type_member, at_conformance_member, at_members, at_members_done, owner_read, member_of}
+use Rattle.hy_grammar.specs.DeclSteps.{begins_at, sort_in, at_member, at_trait_member, at_type_member, at_conformance_member, at_members, at_members_done, owner_read, member_of}
 use Rattle.hy_parser.specs.Headings.{sort_of, owner_sort, member_word, trait_word, product_word, conformance_word, word_state}
-use Rattle.hy_parser.specs.Machine.{step, finish, Unexpected, most_levels, walk}
-use Rattle.hy_parser.specs.Nodes as node
+use Rattle.hy_grammar.specs.Machine.{step, finish, Unexpected, most_levels, walk}
+use Rattle.hy_grammar.specs.Nodes as node
 use Rattle.hy_parser.specs.Separated.{ahead, TakesSome, TakesPublic, TakesMemberPublic}
-use Rattle.hy_parser.specs.Stack.{Start, Owner, TraitOwner, ListedOwner, TypeSubject, ConformanceSubject, InOwner, depth, MembersReady, MembersDone, PublicMember, MemberRead, FieldWord, FieldName, MemberwiseWord, TypeWanted, ForField}
-use Rattle.hy_parser.specs.Wanted.{Sees, Takes, tail}
+use Rattle.hy_grammar.specs.Stack.{Start, Owner, TraitOwner, ListedOwner, TypeSubject, ConformanceSubject, InOwner, depth, MembersReady, MembersDone, PublicMember, MemberRead, FieldWord, FieldName, MemberwiseWord, TypeWanted, ForField}
+use Rattle.hy_phrases.specs.Wanted.{Sees, Takes, tail}
 use Rattle.hy_parser.proofs.Follows.{stops_on, none_ahead, alike_on}
-use Rattle.hy_parser.proofs.Walks.{Follows, Wants, WantsName, fits, moves, over, alike_at, alike_without, taken}
-use Rattle.hy_parser.proofs.WantedKinds.{no_colon, no_init, no_text}
+use Rattle.hy_phrases.proofs.Walks.{Follows, Wants, WantsName, fits, moves, over, alike_at, alike_without, taken}
+use Rattle.hy_phrases.proofs.WantedKinds.{no_colon, no_init, no_text}
 
 -- FIELDS
 

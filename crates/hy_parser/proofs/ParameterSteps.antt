@@ -9,15 +9,15 @@ use Rattle.hy_tree.specs.declared.declaration.Label.TheVariants as label
 use Rattle.hy_tree.specs.declared.name.Name.{Name}
 use Rattle.hy_tree.specs.declared.operator.Mode.{Mode}
 use Rattle.hy_tree.specs.declared.operator.Mode.TheVariants as mode
-use Rattle.hy_parser.specs.DeclSteps.{at_param, at_params_opened, at_param_first, at_param_read, at_mode, mode_in}
-use Rattle.hy_parser.specs.Machine.{step, finish, walk}
+use Rattle.hy_grammar.specs.DeclSteps.{at_param, at_params_opened, at_param_first, at_param_read, at_mode, mode_in}
+use Rattle.hy_grammar.specs.Machine.{step, finish, walk}
 use Rattle.hy_parser.specs.Separated.{ahead}
-use Rattle.hy_parser.specs.Stack.{Head, ParamsOpened, ParamWanted, ParamFirst, ParamUnlabelled, ParamName, ParamColon, ParamRead, ParamsRead, TypeWanted, ForParam}
-use Rattle.hy_parser.specs.Wanted.{Sees}
+use Rattle.hy_grammar.specs.Stack.{Head, ParamsOpened, ParamWanted, ParamFirst, ParamUnlabelled, ParamName, ParamColon, ParamRead, ParamsRead, TypeWanted, ForParam}
+use Rattle.hy_phrases.specs.Wanted.{Sees}
 use Rattle.hy_parser.proofs.Follows.{NamesBut, alike_on, none_ahead}
 use Rattle.hy_parser.proofs.Separators.{Separates}
-use Rattle.hy_parser.proofs.Walks.{Follows, Wants, WantsName, alike_without}
-use Rattle.hy_parser.proofs.WantedKinds.{no_colon, no_text}
+use Rattle.hy_phrases.proofs.Walks.{Follows, Wants, WantsName, alike_without}
+use Rattle.hy_phrases.proofs.WantedKinds.{no_colon, no_text}
 
 pub unlabelled : (head : Head) → Follows k.Underscore (ParamWanted head) (λ span. ParamUnlabelled head span.from)
 unfolding step

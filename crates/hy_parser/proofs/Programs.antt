@@ -7,12 +7,12 @@ use Rattle.hy_lexer.specs.declared.token.Token.{Token}
 use Rattle.hy_tree.specs.Denotes.{program_of}
 use Rattle.hy_tree.specs.Numbers.{number_program}
 use Rattle.hy_tree.specs.declared.declaration.Program.{Program}
-use Rattle.hy_parser.specs.declared.stop.Stop.{Stop}
-use Rattle.hy_parser.specs.Machine.{Halt, start as begin, walk}
-use Rattle.hy_parser.specs.Parses.{Breaks, HasTree, refusal_of}
-use Rattle.hy_parser.specs.Reads.{Halts}
+use Rattle.hy_phrases.specs.declared.stop.Stop.{Stop}
+use Rattle.hy_grammar.specs.Machine.{Halt, start as begin, walk}
+use Rattle.hy_grammar.specs.Parses.{Breaks, HasTree, refusal_of}
+use Rattle.hy_phrases.specs.Reads.{Halts}
 use Rattle.hy_parser.specs.ReadsDeclarations.{ReadsProgram, refused}
-use Rattle.hy_parser.proofs.Faults.{accepts, refuses}
+use Rattle.hy_grammar_laws.proofs.Faults.{accepts, refuses}
 
 pub program_fails : (tokens : List Token) (r : Result Program Stop) (e : Stop) → IsErrAnd r (λ y. y ≡ e) → Halts e (walk (length tokens) begin tokens) → ReadsProgram tokens r
 program_fails tokens (Ok p) e h g = absurd h

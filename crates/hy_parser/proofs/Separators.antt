@@ -4,12 +4,12 @@ use Rattle.hy_base.specs.declared.position.Span.{Span}
 use Rattle.hy_lexer.specs.declared.token.Token.{Token}
 use Rattle.hy_lexer.specs.declared.token.TokenKind.{TokenKind}
 use Rattle.hy_lexer.specs.declared.token.TokenKind.TheVariants as k
-use Rattle.hy_parser.specs.declared.stop.Stop.{Stop}
-use Rattle.hy_parser.specs.Machine.{step, finish, Unexpected, most_levels, walk}
-use Rattle.hy_parser.specs.Reads.{Halts}
-use Rattle.hy_parser.specs.Stack.{State, depth}
-use Rattle.hy_parser.specs.Wanted.{Sees, Takes, Misses}
-use Rattle.hy_parser.proofs.Walks.{over, halts, lacks}
+use Rattle.hy_phrases.specs.declared.stop.Stop.{Stop}
+use Rattle.hy_grammar.specs.Machine.{step, finish, Unexpected, most_levels, walk}
+use Rattle.hy_phrases.specs.Reads.{Halts}
+use Rattle.hy_grammar.specs.Stack.{State, depth}
+use Rattle.hy_phrases.specs.Wanted.{Sees, Takes, Misses}
+use Rattle.hy_phrases.proofs.Walks.{over, halts, lacks}
 
 -- Behind a part, `,` or what ends the list is wanted, where the next token is not of the kind `but`.
 pub record Separates (but close : TokenKind) (s more : State) (done : Span → State) : Type 0 where

@@ -10,21 +10,21 @@ use Rattle.hy_tree.specs.declared.operator.Introducer.{Introducer}
 use Rattle.hy_tree.specs.declared.operator.Introducer.TheVariants as introducer
 use Rattle.hy_tree.specs.declared.operator.Mode.{Mode}
 use Rattle.hy_tree.specs.declared.operator.Mode.TheVariants as mode
-use Rattle.hy_parser.specs.DeclSteps.{at_set, at_body_word, at_variants_read}
+use Rattle.hy_grammar.specs.DeclSteps.{at_set, at_body_word, at_variants_read}
 use Rattle.hy_parser.specs.Headings.{is_left_brace, opens_block, is_subscript, begins_variant, begins_variants, set_in, variant_mode, variant_word}
-use Rattle.hy_parser.specs.Kinds as kind
-use Rattle.hy_parser.specs.Machine.{step, finish, most_levels, walk}
-use Rattle.hy_parser.specs.Nodes as node
-use Rattle.hy_parser.specs.OperandSteps.{}
-use Rattle.hy_parser.specs.Reads.{Halts}
+use Rattle.hy_grammar.specs.Kinds as kind
+use Rattle.hy_grammar.specs.Machine.{step, finish, most_levels, walk}
+use Rattle.hy_grammar.specs.Nodes as node
+use Rattle.hy_grammar.specs.OperandSteps.{}
+use Rattle.hy_phrases.specs.Reads.{Halts}
 use Rattle.hy_parser.specs.Separated.{ahead, TakesSome}
-use Rattle.hy_parser.specs.Stack.{Sort, FileFunction, Method, Requirement, Subscript, Deinit, Head, PlainBody, VariantBody, InBody, depth, depth_head, BodyWanted, BodyOpened, BodyWord, BlockOpened, VariantsRead, SetWord, SetOpened, SetName, BindingWord, BindingName}
-use Rattle.hy_parser.specs.StmtSteps.{callable_read}
-use Rattle.hy_parser.specs.Wanted.{Sees, Misses}
-use Rattle.hy_parser.specs.declared.stop.Stop.{Stop}
+use Rattle.hy_grammar.specs.Stack.{Sort, FileFunction, Method, Requirement, Subscript, Deinit, Head, PlainBody, VariantBody, InBody, depth, depth_head, BodyWanted, BodyOpened, BodyWord, BlockOpened, VariantsRead, SetWord, SetOpened, SetName, BindingWord, BindingName}
+use Rattle.hy_grammar.specs.StmtSteps.{callable_read}
+use Rattle.hy_phrases.specs.Wanted.{Sees, Misses}
+use Rattle.hy_phrases.specs.declared.stop.Stop.{Stop}
 use Rattle.hy_parser.proofs.Follows.{OnNext, alike_on, stops_on}
-use Rattle.hy_parser.proofs.Walks.{fits, Follows, Wants, WantsName, over, alike}
-use Rattle.hy_parser.proofs.WantedKinds.{no_left_paren, no_right_paren, no_left_brace, no_text}
+use Rattle.hy_phrases.proofs.Walks.{fits, Follows, Wants, WantsName, over, alike}
+use Rattle.hy_phrases.proofs.WantedKinds.{no_left_paren, no_right_paren, no_left_brace, no_text}
 
 -- A VARIANT
 

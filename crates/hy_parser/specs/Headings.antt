@@ -22,10 +22,10 @@ use Rattle.hy_parser.specs.declared.heading.Role.{Role}
 use Rattle.hy_parser.specs.declared.heading.Role.TheVariants as role
 use Rattle.hy_parser.specs.declared.heading.Sort as declared
 use Rattle.hy_parser.specs.declared.heading.Sort.TheVariants as sort
-use Rattle.hy_parser.specs.DeclSteps.{sort_in, mode_in, head_of, opening}
-use Rattle.hy_parser.specs.Kinds.{effect_of}
-use Rattle.hy_parser.specs.Wanted.{Sees}
-use Rattle.hy_parser.specs.Stack.{Opening, Subject, TypeWord, TraitWord, ConformanceWord, Start, Home, InFile, InOwner, Owner, TraitOwner, ListedOwner, TypeSubject, ConformanceSubject, Sort, FileFunction, Method, Requirement, Subscript, Deinit, Head, PlainBody, VariantBody, State, FieldWord, MemberwiseWord, SubscriptWord, FunctionWord, DeclRead, MemberRead, GenericWanted, ParamsWanted, SetWord, BodyWanted}
+use Rattle.hy_grammar.specs.DeclSteps.{sort_in, mode_in, head_of, opening}
+use Rattle.hy_grammar.specs.Kinds.{effect_of}
+use Rattle.hy_phrases.specs.Wanted.{Sees}
+use Rattle.hy_grammar.specs.Stack.{Opening, Subject, TypeWord, TraitWord, ConformanceWord, Start, Home, InFile, InOwner, Owner, TraitOwner, ListedOwner, TypeSubject, ConformanceSubject, Sort, FileFunction, Method, Requirement, Subscript, Deinit, Head, PlainBody, VariantBody, State, FieldWord, MemberwiseWord, SubscriptWord, FunctionWord, DeclRead, MemberRead, GenericWanted, ParamsWanted, SetWord, BodyWanted}
 
 -- SORTS
 

@@ -23,13 +23,13 @@ use Rattle.hy_tree.specs.declared.operator.Mode.{Mode}
 use Rattle.hy_parser.specs.declared.heading.Heading.{Heading}
 use Rattle.hy_parser.specs.declared.heading.OwnerSort.{OwnerSort}
 use Rattle.hy_parser.specs.declared.heading.Sort as declared
-use Rattle.hy_parser.specs.declared.stop.Stop.{Stop}
+use Rattle.hy_phrases.specs.declared.stop.Stop.{Stop}
 use Rattle.hy_parser.specs.Headings.{sort_of, DeclAt, FileAt, TypeNamed, Listing, MemberAt, OwnerOf, BelowFunction, BelowName, BelowDeinit, OfSort, Below, BelowSubscript, headed, callable_done, with_generics, generic_done, variant_word, Varying, Owned, Begun}
-use Rattle.hy_parser.specs.DeclSteps.{head_of, opening, owner_read}
-use Rattle.hy_parser.specs.Machine.{most_levels, start as begin, walk}
-use Rattle.hy_parser.specs.Reads.{Halts, Reads, ReadsCounted}
-use Rattle.hy_parser.specs.Stack.{TypeSubject, ListedOwner, FileReady, FileDone, DeclRead, PublicDecl, TypeName, TraitWanted, FieldWord, MemberwiseWord, PublicMember, MemberRead, MembersReady, MembersDone, depth_head, depth_home, Subscript, Deinit, ParamUnlabelled, Head, State, Opening, FunctionWord, FunctionName, SubscriptWord, GenericWanted, BoundWanted, ParamsWanted, ParamsOpened, ParamWanted, ParamFirst, ParamColon, ParamRead, ParamsRead, EffectRead, ResultRead, TypeWanted, ForParam, ForResult, BodyWanted, VariantBody, PlainBody, InBody, BodyOpened, BlockOpened, VariantsRead}
-use Rattle.hy_parser.specs.TypeSteps.{with_param}
+use Rattle.hy_grammar.specs.DeclSteps.{head_of, opening, owner_read}
+use Rattle.hy_grammar.specs.Machine.{most_levels, start as begin, walk}
+use Rattle.hy_phrases.specs.Reads.{Halts, Reads, ReadsCounted}
+use Rattle.hy_grammar.specs.Stack.{TypeSubject, ListedOwner, FileReady, FileDone, DeclRead, PublicDecl, TypeName, TraitWanted, FieldWord, MemberwiseWord, PublicMember, MemberRead, MembersReady, MembersDone, depth_head, depth_home, Subscript, Deinit, ParamUnlabelled, Head, State, Opening, FunctionWord, FunctionName, SubscriptWord, GenericWanted, BoundWanted, ParamsWanted, ParamsOpened, ParamWanted, ParamFirst, ParamColon, ParamRead, ParamsRead, EffectRead, ResultRead, TypeWanted, ForParam, ForResult, BodyWanted, VariantBody, PlainBody, InBody, BodyOpened, BlockOpened, VariantsRead}
+use Rattle.hy_grammar.specs.TypeSteps.{with_param}
 
 -- a part that opens no level by itself, at any level
 abbrev pub ReadsAnywhere : {A B X : Type 0} → (plain : A → B) → (need : X → State) → (have : B → X → State) → List Token → Result A Stop → List Token → Type 0

@@ -6,10 +6,10 @@ use Rattle.hy_lexer.specs.declared.token.TokenKind.{TokenKind}
 use Rattle.hy_lexer.specs.declared.token.TokenKind.TheVariants as k
 use Rattle.hy_parser.specs.declared.heading.OwnerSort.{OwnerSort}
 use Rattle.hy_parser.specs.declared.heading.OwnerSort.TheVariants as owner
-use Rattle.hy_parser.specs.declared.mark.Mark.{Mark}
-use Rattle.hy_parser.specs.declared.stop.Stop.{Stop}
-use Rattle.hy_parser.specs.Marks.{kind_of}
-use Rattle.hy_parser.specs.Wanted.{Sees, Takes, Misses}
+use Rattle.hy_phrases.specs.declared.mark.Mark.{Mark}
+use Rattle.hy_phrases.specs.declared.stop.Stop.{Stop}
+use Rattle.hy_phrases.specs.Marks.{kind_of}
+use Rattle.hy_phrases.specs.Wanted.{Sees, Takes, Misses}
 
 -- `,` was taken, or the token that ends the list, or neither came
 abbrev pub GoesOn : Mark → List Token → Result Bool Stop → List Token → Type 0

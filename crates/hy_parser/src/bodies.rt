@@ -3,15 +3,12 @@ ghost use Rattle.std.specs.Prelude.{◌≡◌, ◌≤◌, ◌<◌, true, length,
 ghost use Rattle.hy_parser.specs.Headings as spec;
 ghost use Rattle.hy_parser.specs.ReadsDeclarations.{ReadsResult, ReadsArrow, ReadsEffect, ReadsOutcome, ReadsBody, ReadsPlainBody, ReadsVaryingBody, ReadsVariants, ReadsVariant, ReadsValueName};
 
-use crate::blocks::read_block;
 use crate::declaration_nodes::{callable, plain_variant, variant};
 use crate::heading::{Heading, Role, Sort, has_body, may_vary, take_mode};
-use crate::mark::Mark;
-use crate::stop::Stop;
-use crate::stream::Tokens;
-use crate::types::read_type;
 use hy_base::Span;
 use hy_lexer::{Token, TokenKind};
+use hy_phrases::{Mark, Stop, Tokens, read_type};
+use hy_statements::read_block;
 use hy_tree::{Callable, Mode, Name, Variant};
 use sqlite_items::Items;
 use std::alloc::Global;

@@ -6,11 +6,9 @@ ghost use Rattle.hy_parser.specs.ReadsDeclarations.{ReadsOpened, ReadsFunction, 
 use crate::bodies::{read_body, read_outcome, read_plain_body};
 use crate::generics::read_generics;
 use crate::heading::{Heading, Sort};
-use crate::mark::Mark;
 use crate::parameters::read_params;
-use crate::stop::Stop;
-use crate::stream::Tokens;
 use hy_base::Span;
+use hy_phrases::{Mark, Stop, Tokens};
 use hy_tree::Callable;
 use std::alloc::Global;
 

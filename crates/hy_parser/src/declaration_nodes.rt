@@ -2,8 +2,8 @@
 ghost use Rattle.std.specs.Prelude.{◌≡◌, map};
 ghost use Rattle.hy_tree.specs.Denotes.{param_of, type_of, block_of, variant_of, callable_of, member_kind_of, member_of, product_of, trait_of, conform_of, decl_kind_of, decl_of, program_of};
 ghost use Rattle.hy_parser.specs.Headings.{sort_of, headed, Below};
-ghost use Rattle.hy_parser.specs.Nodes as node;
-ghost use Rattle.hy_parser.specs.StmtSteps as step;
+ghost use Rattle.hy_grammar.specs.Nodes as node;
+ghost use Rattle.hy_grammar.specs.StmtSteps as step;
 
 use crate::heading::{Heading, Sort};
 use hy_base::Span;
@@ -14,7 +14,7 @@ use hy_tree::{
 use sqlite_items::Items;
 
 /// A parameter that begins there.
-#[tactic(auto, unfolding(crate::specs::Nodes::param))]
+#[tactic(auto, unfolding(hy_grammar::specs::Nodes::param))]
 pub fn param(from: u32, label: Label, name: Name, mode: Mode, written: TypeExp) -> Param
     ensures { param_of result ≡ node.param from label name mode (type_of written) }
 {
@@ -87,7 +87,7 @@ fn kind_of(sort: Sort) -> CallableKind
 }
 
 /// Something callable with its bodies, which ends there.
-#[tactic(auto, unfolding(crate::specs::Nodes::callable))]
+#[tactic(auto, unfolding(hy_grammar::specs::Nodes::callable))]
 pub fn callable(sort: Sort, heading: Heading, variants: Items<Variant>, to: u32) -> Callable
     ensures { (x : Below (sort_of sort)) → callable_of result ≡ step.callable_of (headed (sort_of sort) heading x) (map variant_of variants) to }
 {
@@ -109,7 +109,7 @@ pub fn callable(sort: Sort, heading: Heading, variants: Items<Variant>, to: u32)
 }
 
 /// A member of so many tokens.
-#[tactic(auto, unfolding(crate::specs::Nodes::member))]
+#[tactic(auto, unfolding(hy_grammar::specs::Nodes::member))]
 pub fn member(public: bool, kind: MemberKind, tokens: u32, from: u32, to: u32) -> Member
     ensures { member_of result ≡ node.member public (member_kind_of kind) tokens from to }
 {
@@ -123,7 +123,7 @@ pub fn member(public: bool, kind: MemberKind, tokens: u32, from: u32, to: u32) -
 }
 
 /// A type behind its keyword, up to the `}` of its members.
-#[tactic(auto, unfolding(crate::specs::Nodes::product))]
+#[tactic(auto, unfolding(hy_grammar::specs::Nodes::product))]
 pub fn product(
     keyword: Span,
     name: Name,
@@ -161,7 +161,7 @@ pub fn trait_def(keyword: Span, name: Name, members: Items<Member>, close: Span)
 }
 
 /// A conformance behind its keyword, up to the `}` of its members.
-#[tactic(auto, unfolding(crate::specs::Nodes::conformance))]
+#[tactic(auto, unfolding(hy_grammar::specs::Nodes::conformance))]
 pub fn conformance(
     keyword: Span,
     target: NameUse,
@@ -184,7 +184,7 @@ pub fn conformance(
 }
 
 /// A declaration of so many tokens.
-#[tactic(auto, unfolding(crate::specs::Nodes::decl))]
+#[tactic(auto, unfolding(hy_grammar::specs::Nodes::decl))]
 pub fn decl(public: bool, kind: DeclKind, tokens: u32, from: u32, to: u32) -> Decl
     ensures made { decl_of result ≡ node.decl public (decl_kind_of kind) tokens from to }
     ensures ends { result.span.to ≡ to }
@@ -199,7 +199,7 @@ pub fn decl(public: bool, kind: DeclKind, tokens: u32, from: u32, to: u32) -> De
 }
 
 /// The declarations of a file, whose last token ends there.
-#[tactic(auto, unfolding(crate::specs::Nodes::program))]
+#[tactic(auto, unfolding(hy_grammar::specs::Nodes::program))]
 pub fn program(decls: Items<Decl>, to: u32) -> Program
     ensures { program_of result ≡ node.program (map decl_of decls) to }
 {

@@ -2,19 +2,17 @@
 ghost use Rattle.std.specs.Prelude.{◌≡◌, ◌≤◌, ◌<◌, ◌∷◌, [], length, OnOk};
 ghost use Rattle.hy_parser.specs.Headings as spec;
 ghost use Rattle.hy_parser.specs.ReadsDeclarations.{ReadsTraits, ReadsConformed, ReadsBehind, ReadsDeclKind, ReadsDecl, ReadsEnd, ReadsProgram};
-ghost use Rattle.hy_parser.specs.Stack.{TypeWord, TraitWord, ConformanceWord};
-ghost use Rattle.hy_parser.specs.Wanted.{tail};
+ghost use Rattle.hy_grammar.specs.Stack.{TypeWord, TraitWord, ConformanceWord};
+ghost use Rattle.hy_phrases.specs.Wanted.{tail};
 
 use crate::callables::{read_function, read_subscript};
 use crate::declaration_nodes::{conformance, decl, product, program, trait_def};
 use crate::generics::name_use;
 use crate::heading::{DeclWord, OwnerSort, Sort, take_decl_word};
-use crate::mark::Mark;
 use crate::members::{count_taken, read_members, take_public};
-use crate::stop::Stop;
-use crate::stream::Tokens;
 use hy_base::Span;
 use hy_lexer::{Token, TokenKind};
+use hy_phrases::{Mark, Stop, Tokens};
 use hy_tree::{Callable, Decl, DeclKind, NameUse, Program};
 use sqlite_items::Items;
 use std::alloc::Global;

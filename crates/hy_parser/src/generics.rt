@@ -5,9 +5,7 @@ ghost use Rattle.hy_parser.specs.ReadsDeclarations.{ReadsGenerics, ReadsTypePara
 ghost use Rattle.hy_parser.specs.Separated.{GoesOn};
 
 use crate::heading::{Heading, Sort};
-use crate::mark::Mark;
-use crate::stop::Stop;
-use crate::stream::Tokens;
+use hy_phrases::{Mark, Stop, Tokens};
 use hy_tree::{Name, NameUse, TypeParam};
 use sqlite_items::Items;
 use std::alloc::Global;

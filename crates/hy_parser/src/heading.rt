@@ -1,13 +1,13 @@
 // What is read of something callable before its body, and which words stand where.
 ghost use Rattle.std.specs.Prelude.{◌≡◌, ◌≤◌, ◌<◌, [], length, None, OnSome};
 ghost use Rattle.hy_parser.specs.Headings as spec;
-ghost use Rattle.hy_parser.specs.DeclSteps as step;
-ghost use Rattle.hy_parser.specs.Kinds as kinds;
+ghost use Rattle.hy_grammar.specs.DeclSteps as step;
+ghost use Rattle.hy_grammar.specs.Kinds as kinds;
 ghost use Rattle.hy_parser.specs.Separated.{TakesOf};
 
-use crate::stream::Tokens;
 use hy_base::Span;
 use hy_lexer::TokenKind;
+use hy_phrases::Tokens;
 use hy_tree::{Mode, Name, Param, TypeExp, TypeParam};
 use sqlite_items::Items;
 use std::alloc::Global;

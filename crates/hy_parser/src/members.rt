@@ -4,16 +4,13 @@ ghost use Rattle.hy_lexer.specs.declared.token.TokenKind.TheVariants as k;
 ghost use Rattle.hy_parser.specs.Headings as spec;
 ghost use Rattle.hy_parser.specs.ReadsDeclarations.{ReadsMembers, ReadsMember, ReadsMemberKind, ReadsField, ReadsMemberwise};
 ghost use Rattle.hy_parser.specs.Separated.{TakesPublic, TakesMemberPublic};
-ghost use Rattle.hy_parser.specs.Wanted.{Sees};
+ghost use Rattle.hy_phrases.specs.Wanted.{Sees};
 
 use crate::callables::{read_deinit, read_function, read_subscript};
 use crate::declaration_nodes::member;
 use crate::heading::{MemberWord, OwnerSort, take_member_word};
-use crate::mark::Mark;
-use crate::stop::Stop;
-use crate::stream::Tokens;
-use crate::types::read_type;
 use hy_base::Span;
+use hy_phrases::{Mark, Stop, Tokens, read_type};
 use hy_tree::{Callable, Member, MemberKind};
 use sqlite_items::Items;
 use std::alloc::Global;

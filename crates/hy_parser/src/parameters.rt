@@ -4,10 +4,7 @@ ghost use Rattle.hy_parser.specs.ReadsDeclarations.{ReadsParams, ReadsParam, Rea
 
 use crate::declaration_nodes::param;
 use crate::heading::{Heading, Role, Sort, take_mode};
-use crate::mark::Mark;
-use crate::stop::Stop;
-use crate::stream::Tokens;
-use crate::types::read_type;
+use hy_phrases::{Mark, Stop, Tokens, read_type};
 use hy_tree::{Label, Mode, Name, Param};
 use std::alloc::Global;
 

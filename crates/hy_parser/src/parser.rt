@@ -3,14 +3,14 @@ ghost use Rattle.std.specs.Prelude.{◌≡◌, ◌-◌, length, drop};
 ghost use Rattle.hy_base.specs.Answers.{Answers};
 ghost use Rattle.hy_lexer.specs.Spans.{AreApart};
 ghost use Rattle.hy_tree.specs.Denotes.{program_of};
-ghost use Rattle.hy_parser.specs.Parses as spec;
-ghost use Rattle.hy_parser.specs.Parses.{Breaks, HasTree, unexpected_at, too_deep_at};
+ghost use Rattle.hy_grammar.specs.Parses as spec;
+ghost use Rattle.hy_grammar.specs.Parses.{Breaks, HasTree, unexpected_at, too_deep_at};
 ghost use Rattle.hy_parser.specs.ReadsDeclarations.{refused};
 
 use crate::declarations::read_program;
-use crate::stop::Stop;
 use hy_base::{Fault, Rule, Span};
 use hy_lexer::Token;
+use hy_phrases::Stop;
 use hy_tree::{Program, number};
 use std::alloc::Global;
 

@@ -1,6 +1,6 @@
 use Rattle.std.proofs.Common.{◌≡◌, length, sym, subst}
 use Rattle.hy_lexer.specs.Tokens.{HasTokens}
-use Rattle.hy_parser.specs.Parses as P
+use Rattle.hy_grammar.specs.Parses as P
 use Rattle.hy_tree.specs.Denotes.{program_of}
 use Rattle.hy_tree.specs.Findings as N
 use Rattle.hy_types.specs.declared.resolved.Resolved.{Resolved}

@@ -1,10 +1,10 @@
 use Rattle.std.proofs.Common.{sym, ap, ◌∙◌, arith}
 use Rattle.hy_parser.specs.Headings.{sort_of, Below, headed}
-use Rattle.hy_parser.specs.Machine.{walk}
-use Rattle.hy_parser.specs.Stack.{EffectRead, ResultRead, TypeWanted, ForResult}
+use Rattle.hy_grammar.specs.Machine.{walk}
+use Rattle.hy_grammar.specs.Stack.{EffectRead, ResultRead, TypeWanted, ForResult}
 use Rattle.hy_parser.proofs.BodySteps.{arrow, no_arrow}
 use Rattle.hy_parser.proofs.Follows.{follows}
-use Rattle.hy_parser.proofs.Walks.{fits, taken}
+use Rattle.hy_phrases.proofs.Walks.{fits, taken}
 use Rattle.hy_parser.proofs.bodies.read_arrow.Goals as goal
 
 pub returns-in-Some : goal.returns-in-Some

@@ -1,8 +1,8 @@
 use Rattle.std.proofs.Common.{map, sym, ap, ◌∙◌}
 use Rattle.hy_parser.specs.Headings.{sort_of, headed, callable_done}
-use Rattle.hy_parser.specs.Machine.{walk}
+use Rattle.hy_grammar.specs.Machine.{walk}
 use Rattle.hy_tree.specs.Denotes as D
-use Rattle.hy_parser.specs.StmtSteps.{callable_of}
+use Rattle.hy_grammar.specs.StmtSteps.{callable_of}
 use Rattle.hy_parser.proofs.BodySteps.{requirement_done, is_requirement, fits_owner}
 use Rattle.hy_parser.proofs.bodies.read_body.Goals as goal
 

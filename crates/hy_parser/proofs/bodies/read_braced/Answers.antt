@@ -1,11 +1,11 @@
 use Rattle.std.proofs.Common.{sym, ap, ◌∙◌, arith}
 use Rattle.hy_parser.specs.Headings.{sort_of, Below, headed, callable_done}
-use Rattle.hy_parser.specs.Machine.{walk}
+use Rattle.hy_grammar.specs.Machine.{walk}
 use Rattle.hy_tree.specs.Denotes as D
-use Rattle.hy_parser.specs.Stack.{PlainBody, InBody, ResultRead, BodyOpened, BlockOpened}
+use Rattle.hy_grammar.specs.Stack.{PlainBody, InBody, ResultRead, BodyOpened, BlockOpened}
 use Rattle.hy_parser.proofs.BodySteps.{body_wants, opened_depth, varying, not_varying}
 use Rattle.hy_parser.proofs.Follows.{passed, follows}
-use Rattle.hy_parser.proofs.Walks.{wanted, unopened}
+use Rattle.hy_phrases.proofs.Walks.{wanted, unopened}
 use Rattle.hy_parser.proofs.bodies.read_braced.Goals as goal
 
 pub returns-in_err-brace-clause-reads : goal.returns-in_err-brace-clause-reads

@@ -1,10 +1,10 @@
 use Rattle.std.proofs.Common.{sym, ap, ◌∙◌}
 use Rattle.hy_parser.specs.Headings.{sort_of, headed}
-use Rattle.hy_parser.specs.Machine.{walk}
-use Rattle.hy_parser.specs.DeclSteps.{with_effect}
-use Rattle.hy_parser.specs.Stack.{ParamsRead, EffectRead}
+use Rattle.hy_grammar.specs.Machine.{walk}
+use Rattle.hy_grammar.specs.DeclSteps.{with_effect}
+use Rattle.hy_grammar.specs.Stack.{ParamsRead, EffectRead}
 use Rattle.hy_parser.proofs.BodySteps.{effect_taken, no_effect}
-use Rattle.hy_parser.proofs.Walks.{over}
+use Rattle.hy_phrases.proofs.Walks.{over}
 use Rattle.hy_parser.proofs.bodies.read_effect.Goals as goal
 
 pub returns-in-Some-clause-reads : goal.returns-in-Some-clause-reads

@@ -1,10 +1,10 @@
 use Rattle.std.proofs.Common.{ap}
 use Rattle.hy_parser.specs.Headings.{sort_of, Below, headed}
-use Rattle.hy_parser.specs.Stack.{ParamsRead, EffectRead, ResultRead, TypeWanted, ForResult}
+use Rattle.hy_grammar.specs.Stack.{ParamsRead, EffectRead, ResultRead, TypeWanted, ForResult}
 use Rattle.hy_parser.proofs.BodySteps.{subscript_wants}
 use Rattle.hy_parser.proofs.Follows.{passed, follows}
 use Rattle.hy_parser.proofs.HeadingSteps.{not_subscript}
-use Rattle.hy_parser.proofs.Walks.{fits, wanted, missed}
+use Rattle.hy_phrases.proofs.Walks.{fits, wanted, missed}
 use Rattle.hy_parser.proofs.bodies.read_outcome.Goals as goal
 
 pub returns-in_err-want-in-Subscript-clause-reads : goal.returns-in_err-want-in-Subscript-clause-reads

@@ -1,13 +1,13 @@
 use Rattle.std.proofs.Common.{[], ◌∷◌, ◌++◌, map, refl, sym, ap, ◌∙◌}
 use Rattle.hy_parser.specs.Headings.{sort_of, headed, callable_done}
-use Rattle.hy_parser.specs.Machine.{walk}
+use Rattle.hy_grammar.specs.Machine.{walk}
 use Rattle.hy_tree.specs.Denotes.{block_of, variant_of}
-use Rattle.hy_parser.specs.Nodes as node
-use Rattle.hy_parser.specs.Stack.{PlainBody, InBody}
-use Rattle.hy_parser.specs.StmtSteps.{callable_of, plain_mode}
+use Rattle.hy_grammar.specs.Nodes as node
+use Rattle.hy_grammar.specs.Stack.{PlainBody, InBody}
+use Rattle.hy_grammar.specs.StmtSteps.{callable_of, plain_mode}
 use Rattle.hy_parser.proofs.BodySteps.{called_done}
 use Rattle.hy_parser.proofs.Follows.{passed}
-use Rattle.hy_parser.proofs.StatementNodes.{block_at}
+use Rattle.hy_statements.proofs.StatementNodes.{block_at}
 use Rattle.hy_parser.proofs.bodies.read_plain_body.Goals as goal
 
 pub returns-in_err-block-clause-reads : goal.returns-in_err-block-clause-reads

@@ -1,11 +1,11 @@
 use Rattle.std.proofs.Common.{ap, ◌∙◌}
 use Rattle.hy_parser.specs.Headings.{sort_of, headed}
-use Rattle.hy_parser.specs.Machine.{walk}
+use Rattle.hy_grammar.specs.Machine.{walk}
 use Rattle.hy_tree.specs.Denotes.{type_of}
-use Rattle.hy_parser.specs.Stack.{ForResult, ResultRead}
-use Rattle.hy_parser.specs.TypeSteps.{with_result}
+use Rattle.hy_grammar.specs.Stack.{ForResult, ResultRead}
+use Rattle.hy_grammar.specs.TypeSteps.{with_result}
 use Rattle.hy_parser.proofs.Follows.{passed}
-use Rattle.hy_parser.proofs.Widened.{type_at}
+use Rattle.hy_phrases.proofs.Widened.{type_at}
 use Rattle.hy_parser.proofs.bodies.read_result.Goals as goal
 
 pub returns-in_err-written-clause-reads : goal.returns-in_err-written-clause-reads

@@ -1,10 +1,10 @@
 use Rattle.std.proofs.Common.{Some, sym, ap, ◌∙◌, arith}
-use Rattle.hy_parser.specs.Machine.{walk}
+use Rattle.hy_grammar.specs.Machine.{walk}
 use Rattle.hy_parser.specs.Headings.{variant_word}
-use Rattle.hy_parser.specs.Stack.{BodyWanted, VariantBody}
+use Rattle.hy_grammar.specs.Stack.{BodyWanted, VariantBody}
 use Rattle.hy_parser.proofs.Follows.{passed}
 use Rattle.hy_parser.proofs.VariantSteps.{level_word, set_wants, set_names, set_closes}
-use Rattle.hy_parser.proofs.Walks.{wanted, missed, unopened, named, unnamed, from_there}
+use Rattle.hy_phrases.proofs.Walks.{wanted, missed, unopened, named, unnamed, from_there}
 use Rattle.hy_parser.proofs.bodies.read_value_name.Goals as goal
 
 pub returns-in_err-open-in-Set-clause-reads : goal.returns-in_err-open-in-Set-clause-reads

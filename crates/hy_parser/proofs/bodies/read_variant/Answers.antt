@@ -1,9 +1,9 @@
 use Rattle.std.proofs.Common.{[], ◌∷◌, ◌++◌, refl, sym, ap, ◌∙◌, arith}
-use Rattle.hy_parser.specs.Machine.{walk}
-use Rattle.hy_parser.specs.Stack.{VariantBody, InBody, VariantsRead}
+use Rattle.hy_grammar.specs.Machine.{walk}
+use Rattle.hy_grammar.specs.Stack.{VariantBody, InBody, VariantsRead}
 use Rattle.hy_parser.proofs.Follows.{passed}
 use Rattle.hy_parser.proofs.VariantSteps.{level_word, variant_block}
-use Rattle.hy_parser.proofs.Walks.{wanted, unopened, from_there}
+use Rattle.hy_phrases.proofs.Walks.{wanted, unopened, from_there}
 use Rattle.hy_parser.proofs.bodies.read_variant.Goals as goal
 
 pub returns-in_err-value-clause-reads : goal.returns-in_err-value-clause-reads

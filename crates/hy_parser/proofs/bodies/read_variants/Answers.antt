@@ -1,15 +1,15 @@
 use Rattle.std.proofs.Common.{[], ◌∷◌, map, sym, ap, ◌∙◌, arith}
 use Rattle.hy_parser.specs.Headings.{sort_of, headed, callable_done}
-use Rattle.hy_parser.specs.Machine.{walk}
+use Rattle.hy_grammar.specs.Machine.{walk}
 use Rattle.std.proofs.lemmas.List.{map-append}
 use Rattle.hy_tree.specs.Denotes as D
 use Rattle.hy_parser.specs.Headings.{variant_mode}
 use Rattle.hy_parser.specs.Separated.{ahead}
-use Rattle.hy_parser.specs.Stack.{VariantsRead}
+use Rattle.hy_grammar.specs.Stack.{VariantsRead}
 use Rattle.hy_parser.proofs.BodySteps.{called_done, called_depth}
 use Rattle.hy_parser.proofs.Follows.{passed}
 use Rattle.hy_parser.proofs.VariantSteps.{word_level, variant_begins, variants_close, variants_stop}
-use Rattle.hy_parser.proofs.Walks.{taken, from_there}
+use Rattle.hy_phrases.proofs.Walks.{taken, from_there}
 use Rattle.hy_parser.proofs.bodies.read_variants.Goals as goal
 
 pub variants-preserved : goal.variants-preserved

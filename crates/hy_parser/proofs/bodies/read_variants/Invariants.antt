@@ -2,8 +2,8 @@ use Rattle.std.proofs.Common.{◌≡◌, ◌≤◌, ◌+◌, ℕ, [], map, lengt
 use Rattle.hy_base.specs.declared.position.Span.{Span}
 use Rattle.hy_tree.specs.Denotes.{variant_of}
 use Rattle.hy_parser.specs.Headings.{sort_of, Below, headed}
-use Rattle.hy_parser.specs.Machine.{most_levels, walk}
-use Rattle.hy_parser.specs.Stack.{depth_home, VariantsRead}
+use Rattle.hy_grammar.specs.Machine.{most_levels, walk}
+use Rattle.hy_grammar.specs.Stack.{depth_home, VariantsRead}
 use Rattle.hy_parser.proofs.bodies.read_variants.Given as goal
 
 abbrev pub invariant-variants : goal.invariant-variants

@@ -1,10 +1,10 @@
 use Rattle.std.proofs.Common.{[], sym}
 use Rattle.hy_parser.specs.Headings.{sort_of, Below, headed, callable_done}
 use Rattle.hy_tree.specs.Denotes as D
-use Rattle.hy_parser.specs.Stack.{PlainBody, InBody, BodyOpened, BlockOpened, VariantsRead}
+use Rattle.hy_grammar.specs.Stack.{PlainBody, InBody, BodyOpened, BlockOpened, VariantsRead}
 use Rattle.hy_parser.proofs.Follows.{follows}
 use Rattle.hy_parser.proofs.VariantSteps.{in_variants, in_statements}
-use Rattle.hy_parser.proofs.Walks.{fits}
+use Rattle.hy_phrases.proofs.Walks.{fits}
 use Rattle.hy_parser.proofs.bodies.read_varying_body.Goals as goal
 
 pub returns-then-begins_variants-clause-reads : goal.returns-then-begins_variants-clause-reads

@@ -1,13 +1,13 @@
 use Rattle.std.proofs.Common.{None, sym, ap, ◌∙◌, arith}
 use Rattle.hy_tree.specs.Denotes as D
 use Rattle.hy_parser.specs.Headings.{Below, BelowDeinit, headed, callable_done}
-use Rattle.hy_parser.specs.Machine.{walk}
+use Rattle.hy_grammar.specs.Machine.{walk}
 use Rattle.hy_parser.specs.declared.heading.Heading.{Heading}
-use Rattle.hy_parser.specs.DeclSteps.{head_of}
-use Rattle.hy_parser.specs.Stack.{Deinit, PlainBody, InBody, BodyWanted, BlockOpened}
+use Rattle.hy_grammar.specs.DeclSteps.{head_of}
+use Rattle.hy_grammar.specs.Stack.{Deinit, PlainBody, InBody, BodyWanted, BlockOpened}
 use Rattle.hy_parser.proofs.Follows.{passed, follows}
 use Rattle.hy_parser.proofs.VariantSteps.{plain_block}
-use Rattle.hy_parser.proofs.Walks.{wanted, unopened}
+use Rattle.hy_phrases.proofs.Walks.{wanted, unopened}
 use Rattle.hy_parser.proofs.callables.read_deinit.Goals as goal
 
 pub returns-in_err-brace-clause-reads : goal.returns-in_err-brace-clause-reads

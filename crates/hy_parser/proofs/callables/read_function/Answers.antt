@@ -1,13 +1,13 @@
 use Rattle.std.proofs.Common.{Some, sym, ap, ◌∙◌}
 use Rattle.hy_tree.specs.Denotes as D
 use Rattle.hy_parser.specs.Headings.{sort_of, Below, BelowFunction, headed, callable_done}
-use Rattle.hy_parser.specs.Machine.{walk}
+use Rattle.hy_grammar.specs.Machine.{walk}
 use Rattle.hy_parser.specs.declared.heading.Heading.{Heading}
-use Rattle.hy_parser.specs.DeclSteps.{head_of}
-use Rattle.hy_parser.specs.Stack.{FunctionWord, FunctionName, ParamsWanted}
+use Rattle.hy_grammar.specs.DeclSteps.{head_of}
+use Rattle.hy_grammar.specs.Stack.{FunctionWord, FunctionName, ParamsWanted}
 use Rattle.hy_parser.proofs.CallableSteps.{function_names, fits_function}
 use Rattle.hy_parser.proofs.Follows.{passed, follows}
-use Rattle.hy_parser.proofs.Walks.{fits, named, unnamed, from_there}
+use Rattle.hy_phrases.proofs.Walks.{fits, named, unnamed, from_there}
 use Rattle.hy_parser.proofs.callables.read_function.Goals as goal
 
 pub returns-in_err-name-clause-reads : goal.returns-in_err-name-clause-reads

@@ -1,12 +1,12 @@
 use Rattle.std.proofs.Common.{sym, ap, ◌∙◌}
 use Rattle.hy_tree.specs.Denotes as D
 use Rattle.hy_parser.specs.Headings.{Below, BelowName, headed, callable_done}
-use Rattle.hy_parser.specs.Machine.{walk}
+use Rattle.hy_grammar.specs.Machine.{walk}
 use Rattle.hy_parser.specs.declared.heading.Heading.{Heading}
-use Rattle.hy_parser.specs.Stack.{Subscript, SubscriptWord, ParamsWanted}
+use Rattle.hy_grammar.specs.Stack.{Subscript, SubscriptWord, ParamsWanted}
 use Rattle.hy_parser.proofs.CallableSteps.{subscript_named, subscript_unnamed}
 use Rattle.hy_parser.proofs.Follows.{passed, follows}
-use Rattle.hy_parser.proofs.Walks.{fits}
+use Rattle.hy_phrases.proofs.Walks.{fits}
 use Rattle.hy_parser.proofs.callables.read_named_subscript.Goals as goal
 
 pub returns-in_err-name-clause-reads : goal.returns-in_err-name-clause-reads

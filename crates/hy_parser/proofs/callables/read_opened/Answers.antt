@@ -1,10 +1,10 @@
 use Rattle.std.proofs.Common.{◌∙◌, arith}
 use Rattle.hy_tree.specs.Denotes as D
 use Rattle.hy_parser.specs.Headings.{sort_of, Below, headed, callable_done}
-use Rattle.hy_parser.specs.Stack.{ParamsWanted, ResultRead}
+use Rattle.hy_grammar.specs.Stack.{ParamsWanted, ResultRead}
 use Rattle.hy_parser.proofs.CallableSteps.{params_want}
 use Rattle.hy_parser.proofs.Follows.{passed, follows}
-use Rattle.hy_parser.proofs.Walks.{wanted, unopened, from_there}
+use Rattle.hy_phrases.proofs.Walks.{wanted, unopened, from_there}
 use Rattle.hy_parser.proofs.callables.read_opened.Goals as goal
 
 pub returns-in_err-inner-clause-reads : goal.returns-in_err-inner-clause-reads

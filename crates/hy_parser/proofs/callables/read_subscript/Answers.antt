@@ -1,10 +1,10 @@
 use Rattle.std.proofs.Common.{◌≡◌, inl, inr, true, false, refl, sym, ap, ◌∙◌}
 use Rattle.hy_tree.specs.Denotes as D
 use Rattle.hy_parser.specs.Headings.{Below, BelowSubscript, BelowName, headed, callable_done}
-use Rattle.hy_parser.specs.Machine.{walk}
+use Rattle.hy_grammar.specs.Machine.{walk}
 use Rattle.std.proofs.Common.{Bool}
 use Rattle.hy_parser.specs.declared.heading.Heading.{Heading}
-use Rattle.hy_parser.specs.Stack.{Subscript, SubscriptWord, ParamsWanted}
+use Rattle.hy_grammar.specs.Stack.{Subscript, SubscriptWord, ParamsWanted}
 use Rattle.hy_parser.proofs.CallableSteps.{bare_subscript}
 use Rattle.hy_parser.proofs.Follows.{follows}
 use Rattle.hy_parser.proofs.callables.read_subscript.Goals as goal

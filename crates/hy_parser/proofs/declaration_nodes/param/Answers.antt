@@ -1,8 +1,8 @@
 use Rattle.std.proofs.Common.{sym, ap}
 use Rattle.hy_tree.specs.Denotes.{type_of}
 use Rattle.hy_tree.specs.Tree as T
-use Rattle.hy_parser.specs.Nodes as node
-use Rattle.hy_parser.proofs.Widened.{type_at}
+use Rattle.hy_grammar.specs.Nodes as node
+use Rattle.hy_phrases.proofs.Widened.{type_at}
 use Rattle.hy_parser.proofs.declaration_nodes.param.Goals as goal
 
 pub returns : goal.returns

@@ -1,8 +1,8 @@
 use Rattle.std.proofs.Common.{Some, sym, ap}
 use Rattle.hy_tree.specs.Denotes.{block_of}
 use Rattle.hy_tree.specs.Tree as T
-use Rattle.hy_parser.specs.Nodes as node
-use Rattle.hy_parser.proofs.StatementNodes.{block_at}
+use Rattle.hy_grammar.specs.Nodes as node
+use Rattle.hy_statements.proofs.StatementNodes.{block_at}
 use Rattle.hy_parser.proofs.declaration_nodes.variant.Goals as goal
 
 pub returns : goal.returns

@@ -1,10 +1,10 @@
 use Rattle.std.proofs.Common.{refl, sym, ap, ◌∙◌, arith}
-use Rattle.hy_parser.specs.Machine.{walk}
+use Rattle.hy_grammar.specs.Machine.{walk}
 use Rattle.hy_tree.specs.Tree as T
-use Rattle.hy_parser.specs.DeclSteps.{opening}
-use Rattle.hy_parser.specs.Stack.{ConformanceSubject, ListedOwner, DeclRead, ConformanceName}
+use Rattle.hy_grammar.specs.DeclSteps.{opening}
+use Rattle.hy_grammar.specs.Stack.{ConformanceSubject, ListedOwner, DeclRead, ConformanceName}
 use Rattle.hy_parser.proofs.Follows.{passed_counted}
-use Rattle.hy_parser.proofs.Walks.{fits, named, unnamed, wanted, missed, from_there}
+use Rattle.hy_phrases.proofs.Walks.{fits, named, unnamed, wanted, missed, from_there}
 use Rattle.hy_parser.proofs.DeclarationSteps.{conformance_names, conformance_colon}
 use Rattle.hy_parser.proofs.declarations.read_conformance.Goals as goal
 

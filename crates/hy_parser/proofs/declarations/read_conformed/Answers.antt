@@ -1,12 +1,12 @@
 use Rattle.std.proofs.Common.{List, [], refl, sym, ap, ◌∙◌}
-use Rattle.hy_parser.specs.Machine.{walk}
+use Rattle.hy_grammar.specs.Machine.{walk}
 use Rattle.hy_lexer.specs.declared.token.TokenKind.TheVariants as k
 use Rattle.hy_tree.specs.declared.name.NameUse.{NameUse}
 use Rattle.hy_parser.specs.Headings.{TypeNamed, Listing}
-use Rattle.hy_parser.specs.Stack.{TypeSubject, ListedOwner, TypeName, TraitWanted, MembersReady}
+use Rattle.hy_grammar.specs.Stack.{TypeSubject, ListedOwner, TypeName, TraitWanted, MembersReady}
 use Rattle.hy_parser.proofs.DeclarationSteps.{type_colon, type_opens, type_stops}
 use Rattle.hy_parser.proofs.Follows.{passed, follows, still}
-use Rattle.hy_parser.proofs.Walks.{fits, taken, from_there}
+use Rattle.hy_phrases.proofs.Walks.{fits, taken, from_there}
 use Rattle.hy_parser.proofs.declarations.read_conformed.Goals as goal
 
 pub returns-in-Some-clause-reads : goal.returns-in-Some-clause-reads

@@ -1,12 +1,12 @@
 use Rattle.std.proofs.Common.{◌≤◌, ◌-◌, [], ◌∷◌, ◌++◌, length, sym, ap, ◌∙◌, arith}
 use Rattle.hy_tree.specs.Denotes as D
-use Rattle.hy_parser.specs.Machine.{walk}
-use Rattle.hy_parser.specs.DeclSteps.{begins_at}
-use Rattle.hy_parser.specs.Nodes as node
-use Rattle.hy_parser.specs.Stack.{FileDone}
+use Rattle.hy_grammar.specs.Machine.{walk}
+use Rattle.hy_grammar.specs.DeclSteps.{begins_at}
+use Rattle.hy_grammar.specs.Nodes as node
+use Rattle.hy_grammar.specs.Stack.{FileDone}
 use Rattle.hy_parser.proofs.DeclarationSteps.{file_begins, decl_counted}
 use Rattle.hy_parser.proofs.Follows.{passed_counted}
-use Rattle.hy_parser.proofs.Walks.{from_there}
+use Rattle.hy_phrases.proofs.Walks.{from_there}
 use Rattle.hy_parser.proofs.declarations.read_decl.Goals as goal
 
 pub returns-in_err-kind-clause-reads : goal.returns-in_err-kind-clause-reads

@@ -1,15 +1,15 @@
 use Rattle.std.proofs.Common.{ℕ, length, refl, sym, ap, ◌∙◌, arith}
 use Rattle.hy_tree.specs.Denotes as D
-use Rattle.hy_parser.specs.Machine.{walk}
+use Rattle.hy_grammar.specs.Machine.{walk}
 use Rattle.hy_tree.specs.declared.declaration.DeclKind.{DeclKind}
-use Rattle.hy_parser.specs.declared.stop.Stop.TheVariants as stop
-use Rattle.hy_parser.specs.DeclSteps.{opening}
+use Rattle.hy_phrases.specs.declared.stop.Stop.TheVariants as stop
+use Rattle.hy_grammar.specs.DeclSteps.{opening}
 use Rattle.hy_parser.specs.Headings.{DeclAt, decl_state}
 use Rattle.hy_parser.specs.ReadsDeclarations.{read_decl_kind}
-use Rattle.hy_parser.specs.Stack.{InFile, PublicDecl, DeclRead, TypeWord, TraitWord, ConformanceWord}
+use Rattle.hy_grammar.specs.Stack.{InFile, PublicDecl, DeclRead, TypeWord, TraitWord, ConformanceWord}
 use Rattle.hy_parser.proofs.DeclarationSteps.{decl_begins, no_decl_word}
 use Rattle.hy_parser.proofs.Follows.{passed_counted, follows_counted}
-use Rattle.hy_parser.proofs.Walks.{stopped, from_there}
+use Rattle.hy_phrases.proofs.Walks.{stopped, from_there}
 use Rattle.hy_parser.proofs.declarations.read_decl_kind.Goals as goal
 
 pub returns-in_default-clause-reads : goal.returns-in_default-clause-reads

@@ -1,8 +1,8 @@
 use Rattle.std.proofs.Common.{refl, sym, ap, ◌∙◌}
-use Rattle.hy_parser.specs.Machine.{walk}
-use Rattle.hy_parser.specs.Stack.{FileReady}
+use Rattle.hy_grammar.specs.Machine.{walk}
+use Rattle.hy_grammar.specs.Stack.{FileReady}
 use Rattle.hy_parser.proofs.DeclarationSteps.{file_semicolon, file_goes_on}
-use Rattle.hy_parser.proofs.Walks.{fits, taken}
+use Rattle.hy_phrases.proofs.Walks.{fits, taken}
 use Rattle.hy_parser.proofs.declarations.read_end.Goals as goal
 
 pub returns-in-Some-clause-reads : goal.returns-in-Some-clause-reads

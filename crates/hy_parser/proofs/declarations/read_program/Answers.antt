@@ -1,11 +1,11 @@
 use Rattle.std.proofs.Common.{[], ◌∷◌, ◌++◌, length, Ok, map, refl, sym, ap, ◌∙◌, arith}
 use Rattle.hy_tree.specs.Denotes as D
-use Rattle.hy_parser.specs.Machine.{walk}
+use Rattle.hy_grammar.specs.Machine.{walk}
 use Rattle.std.proofs.lemmas.List.{map-append}
-use Rattle.hy_parser.specs.Stack.{FileReady}
+use Rattle.hy_grammar.specs.Stack.{FileReady}
 use Rattle.hy_parser.proofs.DeclarationSteps.{file_ends}
 use Rattle.hy_parser.proofs.Programs.{program_fails}
-use Rattle.hy_parser.proofs.Walks.{from_there}
+use Rattle.hy_phrases.proofs.Walks.{from_there}
 use Rattle.hy_parser.proofs.declarations.read_program.Goals as goal
 
 pub returns-in_err-made : goal.returns-in_err-made

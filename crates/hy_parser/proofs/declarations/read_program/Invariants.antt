@@ -1,7 +1,7 @@
 use Rattle.std.proofs.Common.{◌≡◌, ◌≤◌, map, length}
 use Rattle.hy_tree.specs.Denotes.{decl_of}
-use Rattle.hy_parser.specs.Machine.{start as begin, walk}
-use Rattle.hy_parser.specs.Stack.{FileReady}
+use Rattle.hy_grammar.specs.Machine.{start as begin, walk}
+use Rattle.hy_grammar.specs.Stack.{FileReady}
 use Rattle.hy_parser.proofs.declarations.read_program.Given as goal
 
 abbrev pub invariant-decls : goal.invariant-decls

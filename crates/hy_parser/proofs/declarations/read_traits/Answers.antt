@@ -1,11 +1,11 @@
 use Rattle.std.proofs.Common.{[], ◌∷◌, ◌++◌, refl, sym, ap, ◌∙◌, arith}
-use Rattle.hy_parser.specs.Machine.{walk}
+use Rattle.hy_grammar.specs.Machine.{walk}
 use Rattle.hy_parser.specs.Headings.{separator_next}
-use Rattle.hy_parser.specs.Nodes as node
-use Rattle.hy_parser.specs.Stack.{ListedOwner, TraitWanted, TraitListed, MembersReady}
+use Rattle.hy_grammar.specs.Nodes as node
+use Rattle.hy_grammar.specs.Stack.{ListedOwner, TraitWanted, TraitListed, MembersReady}
 use Rattle.hy_parser.proofs.DeclarationSteps.{listed_names, more_traits, traits_open, traits_stop}
 use Rattle.hy_parser.proofs.Follows.{passed}
-use Rattle.hy_parser.proofs.Walks.{fits, named, unnamed, taken, from_there}
+use Rattle.hy_phrases.proofs.Walks.{fits, named, unnamed, taken, from_there}
 use Rattle.hy_parser.proofs.declarations.read_traits.Goals as goal
 
 pub returns-in_err-name-clause-reads : goal.returns-in_err-name-clause-reads

@@ -1,7 +1,7 @@
 use Rattle.std.proofs.Common.{◌≡◌, ◌≤◌, ℕ, [], length}
 use Rattle.hy_parser.specs.Headings.{Listing}
-use Rattle.hy_parser.specs.Machine.{walk}
-use Rattle.hy_parser.specs.Stack.{TraitWanted}
+use Rattle.hy_grammar.specs.Machine.{walk}
+use Rattle.hy_grammar.specs.Stack.{TraitWanted}
 use Rattle.hy_parser.proofs.declarations.read_traits.Given as goal
 
 abbrev pub invariant-traits : goal.invariant-traits

@@ -1,14 +1,14 @@
 use Rattle.std.proofs.Common.{◌∷◌, ◌++◌, [], sym, ap, ◌∙◌, arith}
 use Rattle.hy_lexer.specs.declared.token.TokenKind.TheVariants as k
-use Rattle.hy_parser.specs.DeclSteps.{with_generic}
+use Rattle.hy_grammar.specs.DeclSteps.{with_generic}
 use Rattle.hy_parser.specs.Headings.{generic_done}
-use Rattle.hy_parser.specs.Machine.{walk}
-use Rattle.hy_parser.specs.Nodes as node
-use Rattle.hy_parser.specs.Stack.{BoundWanted, BoundListed}
+use Rattle.hy_grammar.specs.Machine.{walk}
+use Rattle.hy_grammar.specs.Nodes as node
+use Rattle.hy_grammar.specs.Stack.{BoundWanted, BoundListed}
 use Rattle.hy_parser.proofs.Follows.{passed, still}
 use Rattle.hy_parser.proofs.HeadingSteps.{bound_wants, bounds_separate, more_bounds, generic_ended}
 use Rattle.hy_parser.proofs.Separators.{on_neither}
-use Rattle.hy_parser.proofs.Walks.{fits, over, named, unnamed, from_there}
+use Rattle.hy_phrases.proofs.Walks.{fits, over, named, unnamed, from_there}
 use Rattle.hy_parser.proofs.generics.read_bounds.Goals as goal
 
 pub returns-in_err-name-clause-reads : goal.returns-in_err-name-clause-reads

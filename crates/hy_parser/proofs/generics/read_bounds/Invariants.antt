@@ -1,6 +1,6 @@
 use Rattle.std.proofs.Common.{◌≡◌, ◌≤◌, ℕ, [], length}
-use Rattle.hy_parser.specs.Machine.{most_levels, walk}
-use Rattle.hy_parser.specs.Stack.{Head, depth_head, BoundWanted}
+use Rattle.hy_grammar.specs.Machine.{most_levels, walk}
+use Rattle.hy_grammar.specs.Stack.{Head, depth_head, BoundWanted}
 use Rattle.hy_parser.proofs.generics.read_bounds.Given as goal
 
 abbrev pub invariant-bounds : goal.invariant-bounds

@@ -1,14 +1,14 @@
 use Rattle.std.proofs.Common.{[], sym, ap, ◌∙◌}
 use Rattle.hy_lexer.specs.declared.token.TokenKind.TheVariants as k
-use Rattle.hy_parser.specs.DeclSteps.{with_generic}
+use Rattle.hy_grammar.specs.DeclSteps.{with_generic}
 use Rattle.hy_parser.specs.Headings.{generic_done}
-use Rattle.hy_parser.specs.Machine.{walk}
+use Rattle.hy_grammar.specs.Machine.{walk}
 use Rattle.hy_parser.specs.ReadsDeclarations.{generic_behind}
-use Rattle.hy_parser.specs.Stack.{GenericWanted, GenericName, BoundWanted}
+use Rattle.hy_grammar.specs.Stack.{GenericWanted, GenericName, BoundWanted}
 use Rattle.hy_parser.proofs.Follows.{passed, follows, still}
 use Rattle.hy_parser.proofs.HeadingSteps.{generic_wants, generic_name_separates, colon_of_generic, generic_ended}
 use Rattle.hy_parser.proofs.Separators.{on_neither}
-use Rattle.hy_parser.proofs.Walks.{fits, over, named, unnamed, from_there}
+use Rattle.hy_phrases.proofs.Walks.{fits, over, named, unnamed, from_there}
 use Rattle.hy_parser.proofs.generics.read_generic.Goals as goal
 
 pub returns-in_err-name-clause-reads : goal.returns-in_err-name-clause-reads

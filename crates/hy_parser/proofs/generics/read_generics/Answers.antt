@@ -1,10 +1,10 @@
 use Rattle.std.proofs.Common.{sym, ap, ◌∙◌, arith}
 use Rattle.hy_parser.specs.Headings.{sort_of, Below, headed}
-use Rattle.hy_parser.specs.Machine.{walk}
-use Rattle.hy_parser.specs.Stack.{FunctionName, GenericWanted, ParamsWanted}
+use Rattle.hy_grammar.specs.Machine.{walk}
+use Rattle.hy_grammar.specs.Stack.{FunctionName, GenericWanted, ParamsWanted}
 use Rattle.hy_parser.proofs.Follows.{follows}
 use Rattle.hy_parser.proofs.HeadingSteps.{no_generics, requirement_name, less_of_function, not_requirement}
-use Rattle.hy_parser.proofs.Walks.{fits, over}
+use Rattle.hy_phrases.proofs.Walks.{fits, over}
 use Rattle.hy_parser.proofs.generics.read_generics.Goals as goal
 
 pub returns-in-Requirement-clause-reads : goal.returns-in-Requirement-clause-reads

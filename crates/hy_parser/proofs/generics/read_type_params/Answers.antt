@@ -1,9 +1,9 @@
 use Rattle.std.proofs.Common.{◌∷◌, [], sym, ap, ◌∙◌, arith}
 use Rattle.hy_parser.specs.Headings.{sort_of, headed, with_generics, generic_done}
-use Rattle.hy_parser.specs.Machine.{walk}
-use Rattle.hy_parser.specs.Stack.{GenericWanted, ParamsWanted}
+use Rattle.hy_grammar.specs.Machine.{walk}
+use Rattle.hy_grammar.specs.Stack.{GenericWanted, ParamsWanted}
 use Rattle.hy_parser.proofs.Follows.{passed}
-use Rattle.hy_parser.proofs.Walks.{from_there}
+use Rattle.hy_phrases.proofs.Walks.{from_there}
 use Rattle.hy_parser.proofs.generics.read_type_params.Goals as goal
 
 pub returns-in_err-generic-clause-reads : goal.returns-in_err-generic-clause-reads

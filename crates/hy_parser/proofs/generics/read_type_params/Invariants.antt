@@ -1,7 +1,7 @@
 use Rattle.std.proofs.Common.{◌≡◌, ◌≤◌, ◌+◌, ℕ, length}
 use Rattle.hy_parser.specs.Headings.{sort_of, Below, headed}
-use Rattle.hy_parser.specs.Machine.{most_levels, walk}
-use Rattle.hy_parser.specs.Stack.{depth_home, GenericWanted}
+use Rattle.hy_grammar.specs.Machine.{most_levels, walk}
+use Rattle.hy_grammar.specs.Stack.{depth_home, GenericWanted}
 use Rattle.hy_parser.proofs.generics.read_type_params.Given as goal
 
 abbrev pub invariant-generics : goal.invariant-generics

@@ -1,12 +1,12 @@
 use Rattle.std.proofs.Common.{refl, ap, ◌∙◌}
 use Rattle.hy_tree.specs.Denotes as D
-use Rattle.hy_parser.specs.Machine.{walk}
+use Rattle.hy_grammar.specs.Machine.{walk}
 use Rattle.hy_tree.specs.Tree as T
-use Rattle.hy_parser.specs.Stack.{ForField, MemberRead}
+use Rattle.hy_grammar.specs.Stack.{ForField, MemberRead}
 use Rattle.hy_parser.proofs.Follows.{passed}
 use Rattle.hy_parser.proofs.MemberSteps.{field_names, field_colon}
-use Rattle.hy_parser.proofs.Walks.{fits, named, unnamed, wanted, missed, from_there}
-use Rattle.hy_parser.proofs.Widened.{type_at}
+use Rattle.hy_phrases.proofs.Walks.{fits, named, unnamed, wanted, missed, from_there}
+use Rattle.hy_phrases.proofs.Widened.{type_at}
 use Rattle.hy_parser.proofs.members.read_field.Goals as goal
 
 pub returns-in_err-name-clause-reads : goal.returns-in_err-name-clause-reads

@@ -1,13 +1,13 @@
 use Rattle.std.proofs.Common.{◌≤◌, ◌-◌, [], ◌∷◌, ◌++◌, length, refl, sym, ap, ◌∙◌, arith}
 use Rattle.hy_tree.specs.Denotes as D
-use Rattle.hy_parser.specs.Machine.{walk}
-use Rattle.hy_parser.specs.DeclSteps.{begins_at}
-use Rattle.hy_parser.specs.Machine.{finish}
-use Rattle.hy_parser.specs.Nodes as node
-use Rattle.hy_parser.specs.Stack.{MembersReady, MembersDone}
+use Rattle.hy_grammar.specs.Machine.{walk}
+use Rattle.hy_grammar.specs.DeclSteps.{begins_at}
+use Rattle.hy_grammar.specs.Machine.{finish}
+use Rattle.hy_grammar.specs.Nodes as node
+use Rattle.hy_grammar.specs.Stack.{MembersReady, MembersDone}
 use Rattle.hy_parser.proofs.Follows.{passed_counted}
 use Rattle.hy_parser.proofs.MemberSteps.{member_begins, member_counted}
-use Rattle.hy_parser.proofs.Walks.{stopped, lacks, from_there}
+use Rattle.hy_phrases.proofs.Walks.{stopped, lacks, from_there}
 use Rattle.hy_parser.proofs.members.read_member.Goals as goal
 
 pub returns-in_default-clause-reads : goal.returns-in_default-clause-reads

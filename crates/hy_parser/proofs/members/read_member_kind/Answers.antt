@@ -1,14 +1,14 @@
 use Rattle.std.proofs.Common.{ℕ, length, Some, refl, sym, ap, ◌∙◌}
 use Rattle.hy_tree.specs.Denotes as D
-use Rattle.hy_parser.specs.Machine.{walk}
+use Rattle.hy_grammar.specs.Machine.{walk}
 use Rattle.hy_tree.specs.declared.declaration.MemberKind.{MemberKind}
-use Rattle.hy_parser.specs.declared.stop.Stop.TheVariants as stop
+use Rattle.hy_phrases.specs.declared.stop.Stop.TheVariants as stop
 use Rattle.hy_parser.specs.Headings.{MemberAt, Begun, member_word, word_state}
 use Rattle.hy_parser.specs.ReadsDeclarations.{read_kind}
-use Rattle.hy_parser.specs.Stack.{InOwner, PublicMember, MemberRead, FieldWord, MemberwiseWord}
+use Rattle.hy_grammar.specs.Stack.{InOwner, PublicMember, MemberRead, FieldWord, MemberwiseWord}
 use Rattle.hy_parser.proofs.Follows.{passed, follows}
 use Rattle.hy_parser.proofs.MemberSteps.{word_begins, no_word, function_sort}
-use Rattle.hy_parser.proofs.Walks.{stopped, from_there}
+use Rattle.hy_phrases.proofs.Walks.{stopped, from_there}
 use Rattle.hy_parser.proofs.members.read_member_kind.Goals as goal
 
 pub returns-in_default-clause-reads : goal.returns-in_default-clause-reads

@@ -1,11 +1,11 @@
 use Rattle.std.proofs.Common.{[], ◌∷◌, ◌++◌, map, refl, sym, ap, ◌∙◌, arith}
 use Rattle.hy_tree.specs.Denotes as D
-use Rattle.hy_parser.specs.Machine.{walk}
+use Rattle.hy_grammar.specs.Machine.{walk}
 use Rattle.std.proofs.lemmas.List.{map-append}
-use Rattle.hy_parser.specs.Stack.{MembersReady}
+use Rattle.hy_grammar.specs.Stack.{MembersReady}
 use Rattle.hy_parser.proofs.Follows.{passed_counted}
 use Rattle.hy_parser.proofs.MemberSteps.{members_close, owner_depth, after_member}
-use Rattle.hy_parser.proofs.Walks.{taken, from_there}
+use Rattle.hy_phrases.proofs.Walks.{taken, from_there}
 use Rattle.hy_parser.proofs.members.read_members.Goals as goal
 
 pub returns-in-Some-clause-reads : goal.returns-in-Some-clause-reads

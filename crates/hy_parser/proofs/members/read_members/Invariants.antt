@@ -1,8 +1,8 @@
 use Rattle.std.proofs.Common.{◌≡◌, ◌≤◌, ℕ, [], map, length}
 use Rattle.hy_tree.specs.Denotes.{member_of}
 use Rattle.hy_parser.specs.Headings.{OwnerOf}
-use Rattle.hy_parser.specs.Machine.{walk}
-use Rattle.hy_parser.specs.Stack.{MembersReady}
+use Rattle.hy_grammar.specs.Machine.{walk}
+use Rattle.hy_grammar.specs.Stack.{MembersReady}
 use Rattle.hy_parser.proofs.members.read_members.Given as goal
 
 abbrev pub invariant-members : goal.invariant-members

@@ -1,7 +1,7 @@
 use Rattle.std.proofs.Common.{refl}
 use Rattle.hy_parser.proofs.Follows.{passed}
 use Rattle.hy_parser.proofs.MemberSteps.{init_wanted}
-use Rattle.hy_parser.proofs.Walks.{fits, wanted, missed}
+use Rattle.hy_phrases.proofs.Walks.{fits, wanted, missed}
 use Rattle.hy_parser.proofs.members.read_memberwise.Goals as goal
 
 pub returns-in_err-span-clause-reads : goal.returns-in_err-span-clause-reads

@@ -1,10 +1,10 @@
 use Rattle.std.proofs.Common.{sym, ap, ◌∙◌}
-use Rattle.hy_parser.specs.DeclSteps.{mode_in}
-use Rattle.hy_parser.specs.Machine.{walk}
+use Rattle.hy_grammar.specs.DeclSteps.{mode_in}
+use Rattle.hy_grammar.specs.Machine.{walk}
 use Rattle.hy_parser.specs.Separated.{ahead}
-use Rattle.hy_parser.specs.Stack.{ParamColon, TypeWanted, ForParam}
+use Rattle.hy_grammar.specs.Stack.{ParamColon, TypeWanted, ForParam}
 use Rattle.hy_parser.proofs.ParameterSteps.{moded, unmoded}
-use Rattle.hy_parser.proofs.Walks.{over}
+use Rattle.hy_phrases.proofs.Walks.{over}
 use Rattle.hy_parser.proofs.parameters.read_mode.Goals as goal
 
 pub returns-in-Some-clause-reads : goal.returns-in-Some-clause-reads

@@ -1,9 +1,9 @@
 use Rattle.std.proofs.Common.{sym, ap, ◌∙◌}
-use Rattle.hy_parser.specs.Machine.{walk}
-use Rattle.hy_parser.specs.Stack.{ParamRead, ForParam}
-use Rattle.hy_parser.specs.TypeSteps.{with_param}
+use Rattle.hy_grammar.specs.Machine.{walk}
+use Rattle.hy_grammar.specs.Stack.{ParamRead, ForParam}
+use Rattle.hy_grammar.specs.TypeSteps.{with_param}
 use Rattle.hy_parser.proofs.Follows.{passed}
-use Rattle.hy_parser.proofs.Walks.{fits, from_there}
+use Rattle.hy_phrases.proofs.Walks.{fits, from_there}
 use Rattle.hy_parser.proofs.parameters.read_param.Goals as goal
 
 pub returns-in_err-from-clause-reads : goal.returns-in_err-from-clause-reads

@@ -1,10 +1,10 @@
 use Rattle.std.proofs.Common.{sym, ap, ◌∙◌}
 use Rattle.hy_lexer.specs.declared.token.TokenKind.TheVariants as k
-use Rattle.hy_parser.specs.Machine.{walk}
-use Rattle.hy_parser.specs.Stack.{ParamWanted, ParamFirst, ParamUnlabelled, ParamColon}
+use Rattle.hy_grammar.specs.Machine.{walk}
+use Rattle.hy_grammar.specs.Stack.{ParamWanted, ParamFirst, ParamUnlabelled, ParamColon}
 use Rattle.hy_parser.proofs.Follows.{passed, follows, still, named_but, unnamed_but}
 use Rattle.hy_parser.proofs.ParameterSteps.{unlabelled, param_names}
-use Rattle.hy_parser.proofs.Walks.{fits, taken, from_there}
+use Rattle.hy_phrases.proofs.Walks.{fits, taken, from_there}
 use Rattle.hy_parser.proofs.parameters.read_param_name.Goals as goal
 
 pub returns-in-Some-clause-reads : goal.returns-in-Some-clause-reads

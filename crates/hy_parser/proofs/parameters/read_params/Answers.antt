@@ -3,13 +3,13 @@ use Rattle.std.proofs.lemmas.List.{map-append}
 use Rattle.hy_lexer.specs.declared.token.TokenKind.TheVariants as k
 use Rattle.hy_tree.specs.Denotes.{param_of}
 use Rattle.hy_parser.specs.Headings.{sort_of, headed}
-use Rattle.hy_parser.specs.Machine.{walk}
-use Rattle.hy_parser.specs.Stack.{ParamWanted, ParamRead, ParamsRead}
-use Rattle.hy_parser.specs.TypeSteps.{with_param}
+use Rattle.hy_grammar.specs.Machine.{walk}
+use Rattle.hy_grammar.specs.Stack.{ParamWanted, ParamRead, ParamsRead}
+use Rattle.hy_grammar.specs.TypeSteps.{with_param}
 use Rattle.hy_parser.proofs.Follows.{passed, still}
 use Rattle.hy_parser.proofs.ParameterSteps.{no_params, some_params, params_separate}
 use Rattle.hy_parser.proofs.Separators.{on_comma, on_close, on_neither}
-use Rattle.hy_parser.proofs.Walks.{fits, taken, from_there}
+use Rattle.hy_phrases.proofs.Walks.{fits, taken, from_there}
 use Rattle.hy_parser.proofs.parameters.read_params.Goals as goal
 
 pub returns-in-Some-clause-reads : goal.returns-in-Some-clause-reads

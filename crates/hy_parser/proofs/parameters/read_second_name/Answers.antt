@@ -1,11 +1,11 @@
 use Rattle.std.proofs.Common.{sym, ap, ◌∙◌}
 use Rattle.hy_tree.specs.declared.declaration.Label.TheVariants as label
 use Rattle.hy_lexer.specs.declared.token.TokenKind.TheVariants as k
-use Rattle.hy_parser.specs.Machine.{walk}
-use Rattle.hy_parser.specs.Stack.{ParamFirst}
+use Rattle.hy_grammar.specs.Machine.{walk}
+use Rattle.hy_grammar.specs.Stack.{ParamFirst}
 use Rattle.hy_parser.proofs.Follows.{passed, still, named_but, unnamed_but}
 use Rattle.hy_parser.proofs.ParameterSteps.{same_label, second_names, colon_wanted}
-use Rattle.hy_parser.proofs.Walks.{fits, taken, wanted, missed, from_there}
+use Rattle.hy_phrases.proofs.Walks.{fits, taken, wanted, missed, from_there}
 use Rattle.hy_parser.proofs.parameters.read_second_name.Goals as goal
 
 pub returns-in-Some-clause-reads : goal.returns-in-Some-clause-reads

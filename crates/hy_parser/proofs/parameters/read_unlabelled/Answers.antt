@@ -2,7 +2,7 @@ use Rattle.std.proofs.Common.{◌∙◌}
 use Rattle.hy_tree.specs.declared.declaration.Label.TheVariants as label
 use Rattle.hy_parser.proofs.Follows.{passed}
 use Rattle.hy_parser.proofs.ParameterSteps.{unlabelled_wants, colon_wanted}
-use Rattle.hy_parser.proofs.Walks.{fits, named, unnamed, wanted, missed, from_there}
+use Rattle.hy_phrases.proofs.Walks.{fits, named, unnamed, wanted, missed, from_there}
 use Rattle.hy_parser.proofs.parameters.read_unlabelled.Goals as goal
 
 pub returns-in_err-name-clause-reads : goal.returns-in_err-name-clause-reads

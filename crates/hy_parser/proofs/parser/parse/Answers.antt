@@ -1,7 +1,7 @@
 use Rattle.std.proofs.Common.{◌-◌, drop, ap, subst, ◌∙◌, length}
-use Rattle.hy_parser.specs.Machine.{Unexpected, TooDeep, start as begin, walk}
-use Rattle.hy_parser.specs.Parses.{unexpected_at, too_deep_at}
-use Rattle.hy_parser.specs.Reads.{Halts}
+use Rattle.hy_grammar.specs.Machine.{Unexpected, TooDeep, start as begin, walk}
+use Rattle.hy_grammar.specs.Parses.{unexpected_at, too_deep_at}
+use Rattle.hy_phrases.specs.Reads.{Halts}
 use Rattle.hy_parser.specs.ReadsDeclarations.{refused}
 use Rattle.hy_parser.proofs.Programs.{answers_tree, answers_refusal}
 use Rattle.hy_parser.proofs.parser.parse.Goals as goal

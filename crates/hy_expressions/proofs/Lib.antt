@@ -1,0 +1,6 @@
+pub mod PartWalks
+pub mod StepWalks
+pub mod Stepped
+pub mod Prefixed
+pub mod OperandWalks
+pub mod ChainWalks

@@ -1,0 +1,4 @@
+use Rattle.hy_expressions.proofs.expressions.+read_expression.Given as goal
+
+abbrev pub decreases-read_expression : goal.decreases-read_expression
+decreases-read_expression l = l.levels

@@ -1,0 +1,16 @@
+pub mod Kinds
+pub mod Nodes
+pub mod Stack
+pub mod TypeSteps
+pub mod OperandSteps
+pub mod StmtSteps
+pub mod ExprSteps
+pub mod DeclSteps
+pub mod Machine
+pub mod Completion
+pub mod TypeGrammar
+pub mod ExprGrammar
+pub mod StmtGrammar
+pub mod Grammar
+pub mod Parses
+pub mod Rows

@@ -1,8 +1,0 @@
-use Rattle.hy_parser.proofs.Faults.{accepts, refuses}
-use Rattle.hy_parser.proofs.laws.first_refusal.Goals as goal
-
-pub returns-clause-accepts : goal.returns-clause-accepts
-returns-clause-accepts c = accepts
-
-pub returns-clause-refuses : goal.returns-clause-refuses
-returns-clause-refuses c = refuses

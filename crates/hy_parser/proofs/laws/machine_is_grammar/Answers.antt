@@ -1,9 +1,0 @@
-use Rattle.hy_parser.proofs.CompleteDecls.{complete}
-use Rattle.hy_parser.proofs.SoundRun.{sound}
-use Rattle.hy_parser.proofs.laws.machine_is_grammar.Goals as goal
-
-pub returns-clause-accepted : goal.returns-clause-accepted
-returns-clause-accepted c = complete
-
-pub returns-clause-only : goal.returns-clause-only
-returns-clause-only c = sound

@@ -1,8 +1,0 @@
-use Rattle.hy_parser.proofs.Beginnings.{reached_begins, refused_begins}
-use Rattle.hy_parser.proofs.laws.refused_tokens_begin_no_program.Goals as goal
-
-pub returns-clause-refused : goal.returns-clause-refused
-returns-clause-refused c = refused_begins
-
-pub returns-clause-others : goal.returns-clause-others
-returns-clause-others c = reached_begins

@@ -1,0 +1,6 @@
+pub mod Walks
+pub mod Widened
+pub mod Alone
+pub mod WantedKinds
+pub mod TypeWalks
+pub mod Chained

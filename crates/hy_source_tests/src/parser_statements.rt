@@ -1,0 +1,234 @@
+//! Blocks over the tokens of texts: the statements that each has, or the token at which the text begins none.
+use hy_base::Span;
+use hy_lexer::{Token, lex};
+use hy_phrases::{Stop, Tokens};
+use hy_statements::read_block;
+use hy_tree::{Block, StmtKind};
+use std::alloc::{AllocError, Global};
+use std::test::Fail;
+
+/// A row has a block, with `|` for the end of a line, and behind `=>` its statements, or the number of the token that cannot
+/// stand there.
+const ROWS: &str = "
+{ } => .
+{ x } => Expr.
+{ var x = 1 | + 1 | x(1) } => Binding Expr.
+{ x | - 1 } => Expr.
+{ while x {} | - 1 } => While Expr.
+{ x | (x) } => Expr Expr.
+{ x | .y } => Expr.
+{ x | & y } => Expr Expr.
+{ x x } => at 2
+{ x; x } => Expr Expr.
+{ x ; | x } => Expr Expr.
+{ x | ; x } => Expr Expr.
+{ x; } => at 3
+{ x | ; } => at 3
+{ ; x } => at 1
+{ x; ; x } => at 3
+{ return | x } => Return Expr.
+{ return x } => Value.
+{ return; x } => Return Expr.
+{ return } => Return.
+{ return - 1 } => Value.
+{ return | - 1 } => Return Expr.
+{ return = 1 } => at 2
+{ if x {} | else {} } => Else.
+{ if x {} | else if y {} | else if z {} } => If.
+{ if x { y } else if y { z; z } else { x } } => Else.
+{ if x {} x } => at 5
+{ if x {} | x } => If Expr.
+{ if x {}; x } => If Expr.
+{ if x {} else } => at 6
+{ if x {} else x } => at 6
+{ if {} } => at 2
+{ if x } => at 3
+{ break } => at 1
+{ continue } => at 1
+{ if x { break } } => at 4
+{ while x { break } } => While.
+{ while x { if y { continue } else { break } } } => While.
+{ while x { while y {} | break } } => While.
+{ while x {} break } => at 5
+{ while x {} | break } => at 5
+{ while x {} else {} } => at 5
+{ while x } => at 3
+{ x < 1 < 1 } => at 4
+{ x(1 } => at 4
+{ var x: Int } => Declare.
+{ var x: Int | x = 1 } => Declare Assign.
+{ var x: Int = 1 } => Typed.
+{ let x: Array<Int> | = y } => Typed.
+{ let x: Int } => at 5
+{ let x: Int | x } => at 5
+{ inout x: Int } => at 5
+{ let x = 1; inout y = &x } => Binding Binding.
+{ var x } => at 3
+{ let = 1 } => at 2
+{ let x = } => at 4
+{ _ = x } => Expr.
+{ _ | = x } => Expr.
+{ _ x } => at 2
+{ _ += x } => at 2
+{ x = 1 | y.z = 1; f(x) = 2 } => Assign Assign Assign.
+{ x | = 1 } => Assign.
+{ x = y = z } => at 4
+{ x += 1; x -= 1; x *= 1; x /= 1; x %= 1 } => Compound Compound Compound Compound Compound.
+{ x | += 1 } => Compound.
+{ x += y = z } => at 4
+{ x = } => at 3
+{ x %= } => at 3
+{ yield &x } => Yield.
+{ yield } => at 2
+{ x => at 2
+{ var => at 2
+{ return => at 2
+{ => at 1
+{ while x { } => at 5
+{ fun } => at 1
+{ else {} } => at 1
+";
+
+/// A row has a block, and where its statements stand.
+const SPANS: &str = "
+{ var x = 1 } => 2-11.
+{ let x: Int = 1 } => 2-16.
+{ var x: Int } => 2-12.
+{ _ = x } => 2-7.
+{ x = 1; x += (1) } => 2-7 9-17.
+{ (x) } => 2-5.
+{ if x {} else if y { z } } => 2-25.
+{ if x {} else { y } } => 2-20.
+{ while x { break } } => 2-19.
+{ return; return x } => 2-8 10-18.
+{ yield &x } => 2-10.
+";
+
+/// A row has a block, how many levels may be opened in it, and what comes of that.
+const LEVELS: [(&str, usize, &str); 4] = [
+    ("{ while x {} }", 0, "too deep at 3"),
+    ("{ while x {} }", 1, "While."),
+    ("{ if x { if y {} } }", 1, "too deep at 6"),
+    ("{ if x {} else {} }", 0, "too deep at 3"),
+];
+
+fn kind_text(kind: &StmtKind) -> &'static str {
+    match kind {
+        StmtKind::Binding(_, _, None, _) => "Binding",
+        StmtKind::Binding(_, _, Some(_), _) => "Typed",
+        StmtKind::Declare(_, _) => "Declare",
+        StmtKind::Assign(_, _) => "Assign",
+        StmtKind::Compound(_, _, _) => "Compound",
+        StmtKind::Expr(_) => "Expr",
+        StmtKind::If(_, None) => "If",
+        StmtKind::If(_, Some(_)) => "Else",
+        StmtKind::While(_, _, _) => "While",
+        StmtKind::Return(_, None) => "Return",
+        StmtKind::Return(_, Some(_)) => "Value",
+        StmtKind::Break => "Break",
+        StmtKind::Continue => "Continue",
+        StmtKind::Yield(_, _) => "Yield",
+    }
+}
+
+fn block_text(alloc: Global, block: &Block) -> Result<String, AllocError> {
+    let mut text = String::new(alloc);
+    for stmt in block.stmts.as_slice() {
+        if !text.is_empty() {
+            text.push_str(" ")?;
+        }
+        text.push_str(kind_text(&stmt.kind))?;
+    }
+    text.push_str(".")?;
+    Ok(text)
+}
+
+fn spans_text(alloc: Global, block: &Block) -> Result<String, AllocError> {
+    let mut text = String::new(alloc);
+    for stmt in block.stmts.as_slice() {
+        if !text.is_empty() {
+            text.push_str(" ")?;
+        }
+        let from = stmt.span.from;
+        let to = stmt.span.to;
+        let one = format!(in alloc; "{from}-{to}")?;
+        text.push_str(one.as_str())?;
+    }
+    text.push_str(".")?;
+    Ok(text)
+}
+
+/// What is read from the tokens of a block, the first of which is its `{`.
+fn read(alloc: Global, tokens: &[Token], levels: usize) -> Result<Block, Stop> {
+    let mut tokens = Tokens { rest: tokens };
+    tokens.skip();
+    let brace = Span { from: 0, to: 1 };
+    read_block(alloc, &mut tokens, levels, brace, false)
+}
+
+fn tokens_of(alloc: Global, row: &str) -> Result<Vec<Token>, AllocError> {
+    let mut source = Vec::new(alloc);
+    for byte in row.as_bytes().iter().copied() {
+        source.push(if byte == b'|' { b'\n' } else { byte })?;
+    }
+    if source.len() > 1_048_576 {
+        return Err(AllocError);
+    }
+    match lex(alloc, source.as_slice()) {
+        Ok(tokens) => Ok(tokens),
+        Err(_) => Err(AllocError),
+    }
+}
+
+fn shown(alloc: Global, row: &str, levels: usize, spans: bool) -> Result<String, AllocError> {
+    let tokens = tokens_of(alloc, row)?;
+    match read(alloc, tokens.as_slice(), levels) {
+        Ok(block) => {
+            if spans {
+                spans_text(alloc, &block)
+            } else {
+                block_text(alloc, &block)
+            }
+        }
+        Err(Stop::NoMemory) => Err(AllocError),
+        Err(Stop::Unexpected(left)) => {
+            let at = tokens.len().saturating_sub(left);
+            format!(in alloc; "at {at}")
+        }
+        Err(Stop::TooDeep(left)) => {
+            let at = tokens.len().saturating_sub(left);
+            format!(in alloc; "too deep at {at}")
+        }
+    }
+}
+
+#[test]
+fn statements(rt: HostRuntime) -> Result<(), Fail> {
+    for row in ROWS.lines() {
+        if let Some((text, wanted)) = row.split_once(" => ") {
+            let found = shown(rt.alloc(), text, 199, false)?;
+            assert_eq!(rt; found.as_str(), wanted, "{text}");
+        }
+    }
+    Ok(())
+}
+
+#[test]
+fn places(rt: HostRuntime) -> Result<(), Fail> {
+    for row in SPANS.lines() {
+        if let Some((text, wanted)) = row.split_once(" => ") {
+            let found = shown(rt.alloc(), text, 199, true)?;
+            assert_eq!(rt; found.as_str(), wanted, "{text}");
+        }
+    }
+    Ok(())
+}
+
+#[test]
+fn levels(rt: HostRuntime) -> Result<(), Fail> {
+    for (text, levels, wanted) in LEVELS {
+        let found = shown(rt.alloc(), text, levels, false)?;
+        assert_eq!(rt; found.as_str(), wanted, "{text}");
+    }
+    Ok(())
+}

@@ -1,0 +1,4 @@
+pub mod StatementNodes
+pub mod StatementWalks
+pub mod StatementSteps
+pub mod BlockSteps
