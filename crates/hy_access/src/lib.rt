@@ -5,8 +5,6 @@
 mod access;
 mod accesses;
 mod slots;
-#[cfg(test)]
-mod tests;
 mod walk;
 
 pub use access::{AccId, Range, Way};

@@ -11,8 +11,6 @@ mod position;
 mod refusal;
 mod run;
 mod streams;
-#[cfg(test)]
-mod tests;
 mod text;
 
 pub use files::{FileFault, Files};

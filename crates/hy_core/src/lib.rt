@@ -7,8 +7,6 @@ mod log;
 mod memory;
 mod operators;
 mod program;
-#[cfg(test)]
-mod tests;
 mod told;
 mod value;
 

@@ -7,10 +7,9 @@ mod execute;
 mod lower;
 mod message;
 mod scope;
-#[cfg(test)]
-mod tests;
 mod top;
 
 pub use due::Report;
 pub use execute::LONGEST_OBJECT;
+pub use scope::Scope;
 pub use top::hyloc;

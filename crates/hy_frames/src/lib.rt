@@ -4,8 +4,6 @@
 mod acts;
 mod id;
 mod slots;
-#[cfg(test)]
-mod tests;
 
 pub use acts::Acts;
 pub use id::{ActId, Standing};

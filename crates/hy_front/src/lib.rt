@@ -8,11 +8,7 @@ mod forms;
 mod fronted;
 mod laws;
 mod least;
-#[cfg(test)]
-mod names_rows;
 mod statement;
-#[cfg(test)]
-mod tests;
 mod written;
 
 pub use forms::printed;

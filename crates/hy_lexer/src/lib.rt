@@ -9,8 +9,6 @@ mod marks;
 mod number;
 mod run;
 mod scan;
-#[cfg(test)]
-mod tests;
 mod token;
 mod words;
 

@@ -18,11 +18,14 @@ pub enum Cell {
     Word(i64),
 }
 
-/// Why no further instruction follows.
+/// Why no further instruction follows (`docs/MACHINE.md`).
 #[derive(Clone, Copy, Debug, PartialEq, Eq)]
 pub enum Halt {
+    /// The run is at its end.
     Ended(End),
+    /// The instruction cannot be done, for this reason. A safe object never comes here.
     Stuck(Kind),
+    /// The output failed, or memory ran out.
     Cut(RunCause),
 }
 

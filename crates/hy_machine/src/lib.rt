@@ -3,7 +3,6 @@
 
 mod frame;
 mod machine;
-#[cfg(test)]
-mod tests;
 
-pub use machine::run;
+pub use frame::Halt;
+pub use machine::{Machine, run};

@@ -11,8 +11,6 @@ mod number;
 mod object;
 mod reading;
 mod stuck;
-#[cfg(test)]
-mod tests;
 mod writing;
 
 pub use instr::{Instr, Place, Shown, Way};

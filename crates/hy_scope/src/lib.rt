@@ -17,8 +17,6 @@ mod notes;
 mod resolved_names;
 mod statement;
 mod table;
-#[cfg(test)]
-mod tests;
 mod written;
 
 pub use laws::full_names_tell_apart;

@@ -17,8 +17,6 @@ mod operator;
 mod parts;
 pub mod predeclared;
 mod statement;
-#[cfg(test)]
-mod tests;
 mod written;
 
 pub use declaration::{

@@ -10,8 +10,6 @@ mod replacing;
 mod resolved;
 mod sizes;
 mod table;
-#[cfg(test)]
-mod tests;
 
 pub use kinds::{Ty, TyId};
 pub use list::TyList;

@@ -1,8 +1,6 @@
 //! The words of the command line. `README.md` has the commands.
 #![tactic(auto)]
 
-#[cfg(test)]
-mod tests;
 mod words;
 
 pub use words::{Command, MOST_TURNS, Options, TURNS, Usage, read_words};

@@ -1,7 +1,7 @@
 // The tokens of texts, and where they are refused. Each row has a text and what is wanted: each token with its place, and a
 // star where it is the first on its line, or the rule that is broken with its place.
-use crate::{TokenKind, lex};
 use hy_base::{Fault, Rule, Span};
+use hy_lexer::{TokenKind, lex};
 use std::alloc::{AllocError, Global};
 use std::test::Fail;
 

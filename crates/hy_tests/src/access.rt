@@ -1,7 +1,7 @@
 // What live accesses forbid. Each row is worked out by hand from the accesses above it.
 ghost use Rattle.hy_access.specs.Accesses.{IsLiveIfGiven};
 
-use crate::{AccId, Accesses, Range, Way};
+use hy_access::{AccId, Accesses, Range, Way};
 use std::test::Fail;
 
 fn cells(block: u64, from: u32, len: u32) -> Range {

@@ -1,5 +1,5 @@
 // The words that are a command, and those that are none.
-use crate::*;
+use hy_words::{Command, Usage, read_words};
 use std::alloc::{AllocError, Global};
 use std::test::Fail;
 

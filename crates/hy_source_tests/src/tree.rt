@@ -1,6 +1,10 @@
 // A small program as a tree: what its nodes are numbered, and the parts that passes ask for.
-use crate::*;
 use hy_base::{Span, Text};
+use hy_tree::{
+    Arg, Block, Callable, CallableKind, Decl, DeclKind, Expr, ExprKind, Label, Member, MemberKind,
+    Mode, Name, NameUse, Param, Product, Program, Step, StepKind, Stmt, StmtKind, TypeExp,
+    TypeKind, Variant, number,
+};
 use sqlite_items::{Boxed, Items};
 use std::alloc::{AllocError, Global};
 use std::test::Fail;

@@ -1,6 +1,6 @@
 // What the phases before the grammar refuse. The top call has rows for all phases.
-use crate::front;
 use hy_base::{Fault, Rule, Span};
+use hy_front::front;
 use std::test::Fail;
 
 #[test]

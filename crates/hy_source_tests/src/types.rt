@@ -2,7 +2,7 @@
 ghost use Rattle.std.specs.Prelude.{◌≡◌};
 ghost use Rattle.hy_types.specs.Types.{HasId};
 
-use crate::{Found, Ty, TyId, TyList, TyTable};
+use hy_types::{Found, Ty, TyId, TyList, TyTable};
 use std::alloc::Global;
 use std::process::Abort;
 use std::test::Fail;

@@ -1,7 +1,7 @@
 // Source texts, and where the rules on names are broken. In a row « and » stand around the refused span, and are no part of the
 // source. `docs/NAMES.md` has the rules.
-use crate::LONGEST;
 use hy_base::Fault;
+use hy_front::LONGEST;
 use hy_lexer::{lex, spans_are_apart};
 use hy_parser::parse;
 use hy_scope::resolve;

@@ -1,5 +1,5 @@
 // A part of a pair that is lent, and changed, in both memories.
-use crate::{Cells, Copies, Key, Spot, Value};
+use hy_core::{Cells, Copies, Key, Spot, Value};
 use sqlite_items::Items;
 use std::alloc::{AllocError, Global};
 use std::test::Fail;

@@ -1,6 +1,6 @@
 // The activations that are left, what each was started with, and how each stands. Each line of numbers is worked out by
 // hand from the calls above it.
-use crate::Acts;
+use hy_frames::Acts;
 use std::test::Fail;
 
 #[test]

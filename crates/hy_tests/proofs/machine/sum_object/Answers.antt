@@ -11,7 +11,7 @@ use Rattle.hy_object.specs.States.{State, Ended, Stuck}
 use Rattle.hy_object.specs.Steps.{begin, steps}
 use Rattle.hy_object.proofs.OneEnd.{ended_stays}
 use Rattle.hy_machine.specs.Built.{IsBuilt}
-use Rattle.hy_machine.proofs.tests.sum_object.Goals as goal
+use Rattle.hy_tests.proofs.machine.sum_object.Goals as goal
 
 abbrev sum_code : List Instr
 sum_code = instr.Const 0 (pos 40) ∷ instr.Const 1 (pos 2) ∷ instr.Add 0 0 1 0 ∷ instr.Print 0 shown.Int ∷ instr.Return 0 ∷ []

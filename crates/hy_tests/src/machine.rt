@@ -6,9 +6,8 @@ ghost use Rattle.hy_object.specs.Grammar.{IsInGrammar};
 ghost use Rattle.hy_object.specs.Runs.{IsSafe};
 ghost use Rattle.hy_machine.specs.Built.{IsBuilt};
 
-use crate::frame::Halt;
-use crate::machine::{Machine, run};
 use hy_base::{Counts, End, Ending, Failed, NoMemory, RunCause, Sink, Source, Span, TrapKind};
+use hy_machine::{Halt, Machine, run};
 use hy_object::{Fun, Instr, Kind, Object, Place, Shown};
 use sqlite_items::Items;
 use std::alloc::Global;

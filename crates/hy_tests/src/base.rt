@@ -1,4 +1,6 @@
-use crate::*;
+use hy_base::{
+    FileFault, Files, MemFiles, MemSink, PlainFiles, PlainSink, PlainSource, Sink, Source,
+};
 use indexmap::IndexMap;
 use std::alloc::{AllocFailed, Global};
 use std::test::Fail;

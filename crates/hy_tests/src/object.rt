@@ -1,7 +1,7 @@
 // Bytes, and what they decode to: an object, whose bytes are these again, or the place where they are bad. Bytes are written
 // in base 16, a row a line.
-use crate::*;
 use hy_base::NoMemory;
+use hy_object::{Instr, Object, ObjectFault, decode, encode};
 use std::alloc::Global;
 use std::test::Fail;
 

@@ -1,6 +1,6 @@
 // Small sources as trees: what their names stand for, or the rule that is broken. `docs/NAMES.md` has many more, as texts.
-use crate::resolve;
 use hy_base::{Fault, Span, Text};
+use hy_scope::resolve;
 use hy_tree::{
     Arg, Block, Callable, CallableKind, Decl, DeclKind, Expr, ExprKind, Introducer, Label, Mode,
     Name, Param, Program, Step, StepKind, Stmt, StmtKind, TypeExp, TypeKind, Variant, number,

@@ -1,9 +1,8 @@
 // The rows of the top call over objects in memory.
 ghost use Rattle.std.specs.Prelude.{◌≡◌, IfOk};
 
-use crate::scope::Scope;
-use crate::top::hyloc;
 use hy_base::{Files, MemFiles, MemSink, PlainSource};
+use hy_driver::{Scope, hyloc};
 use indexmap::IndexMap;
 use std::alloc::{AllocError, Global};
 use std::test::Fail;
