@@ -1,35 +1,42 @@
 -- Calls, projections and returns: who runs, who waits.
-use Rattle.std.proofs.Common.{◌≡◌, ◌≢◌, ◌<◌, ◌≤◌, ◌+◌, ◌-◌, ◌^◌, ◌&&◌, ℕ, zero, suc, Bool, true, false, nat_le, List, [], ◌∷◌, ◌++◌, length, Option, Some, None, IsSome, IsSomeAnd, is_some, Result, Ok, Err, slice_get, refl, sym, ap, subst, ◌∙◌, arith}
+use Rattle.std.proofs.Common.{◌≡◌, ◌≢◌, ◌<◌, ◌≤◌, ◌+◌, ◌-◌, ◌^◌, ℕ, suc, Bool, true, false, nat_le, List, [], ◌∷◌, ◌++◌, length, Option, Some, None, IsSome, IsSomeAnd, is_some, Err, slice_get, refl, sym, ap, subst, ◌∙◌, arith}
 use Rattle.std.proofs.lemmas.Bool.Decides.{nat_tests}
 use Rattle.hy_base.specs.declared.run.Counts.{Counts}
 use Rattle.hy_base.specs.declared.run.End.TheVariants as end
+use Rattle.hy_frames.specs.declared.id.ActId.{ActId}
+use Rattle.hy_frames.specs.declared.id.Standing.TheVariants.{Running}
+use Rattle.hy_frames.specs.Activations as acts
+use Rattle.hy_links.specs.Chains.{times}
 use Rattle.hy_object.specs.declared.instr.Instr.{Instr}
 use Rattle.hy_object.specs.declared.instr.Instr.TheVariants as instr
 use Rattle.hy_object.specs.declared.object.Fun.{Fun}
 use Rattle.hy_object.specs.declared.object.Object.{Object}
 use Rattle.hy_object.specs.declared.stuck.Kind.TheVariants as kind
-use Rattle.hy_object.specs.Checks.{Reach, check, ends, is_empty, is_whole, may_write, own_slot, own_words, stuck, take_turn, turn_of, with_some, with_turn}
+use Rattle.hy_object.specs.Checks.{check, ends, is_empty, is_whole, may_write, own_slot, own_words, stuck, take_turn, turn_of, with_some, with_turn}
 use Rattle.hy_object.specs.Controls.{behind, call, can_give, frees_frame, project, start}
-use Rattle.hy_object.specs.States.{Activation, Called, Projected, Range, Role, State, all_below, nth}
+use Rattle.hy_object.specs.States.{Activation, Called, Projected, State, nth}
 use Rattle.hy_store.specs.declared.halt.Halt.{Halt}
 use Rattle.hy_store.specs.declared.halt.Halt.TheVariants as halt
 use Rattle.hy_store.specs.declared.store.Store.{Store}
 use Rattle.hy_store.specs.Calls.{hands_to}
 use Rattle.hy_store.specs.declared.cell.Cell.{Cell}
-use Rattle.hy_store.specs.Memory.{Live, live}
+use Rattle.hy_store.specs.Memory.{live}
 use Rattle.hy_store.specs.Opened.{told_range}
 use Rattle.hy_store.specs.Passes.{GoesBack, LeadsTo, Passes, Returned, Waits, with_one_freed}
 use Rattle.hy_store.specs.Sees.{Ghosts, Sees, told_role}
 use Rattle.hy_store.proofs.Counted.{both}
 use Rattle.hy_store.proofs.Rows.{nth_get, nth_there}
+use Rattle.hy_store.proofs.Waiting.{frames_of}
 use Rattle.hy_checked.specs.declared.calls.Start.{Start}
 use Rattle.hy_checked.specs.declared.machine.Machine.{Machine}
 use Rattle.hy_checked.specs.declared.machine.Waiting.{Waiting}
-use Rattle.hy_checked.specs.Answers.{Answers, EndsRun, GoesOn, IsUnmoved, KeepsOutside}
-use Rattle.hy_checked.specs.Standing.{AreHanded, AreKeptAs, AreSliding, HandsTo, IsAt, IsKeptAs, Stands}
+use Rattle.hy_checked.specs.Answers.{Answers, GoesOn, IsUnmoved, KeepsOutside}
+use Rattle.hy_checked.specs.Standing.{AreCallers, AreHanded, AreSleepers, AreSliding, HasCaller, IsAt, IsKeptAs, IsPausedAs, IsRunningAs, Stands, WaitsAs}
 use Rattle.hy_checked.specs.Starting.{CanStart}
+use Rattle.hy_checked.proofs.Acting.{KeepsOthers, callers_stay, kept_as, live_so, none_in, own_apart, paused_stays, runs_on, started_is, started_keeps, started_many, started_stays, then_keeps}
 use Rattle.hy_checked.proofs.Known.{allowed, fun_in, of_grammar, same_fun, sees_fun, some_same}
 use Rattle.hy_checked.proofs.Lifting.{handed_behind}
+use Rattle.hy_checked.proofs.Pausing.{caller_told, gone_keeps, gone_many, now_ended, now_one_less, others_sleep, others_wait, waits_behind}
 
 -- WHAT IS HANDED OVER
 
@@ -78,56 +85,65 @@ module _ (object : Object) (m : Machine) (fun callee : Fun) (what : Start) (can 
       let same : m.store.counts.blocks ≡ can.here.state.counts.blocks = ap (λ (c : Counts). c.blocks) st.sees.counts in
       omega (arith, named, same)
 
-module _ (object : Object) (m new : Machine) (fun callee : Fun) (what : Start) (can : CanStart object m fun callee what) where
-  -- it runs, and its caller waits
-  stands_started : (s : State) (left : ℕ) (g : Ghosts) (w : Waiting) → Stands object m s → s.left ≡ suc left →
-      Sees g new.store callee (start (with_turn s left) what.number callee what.slot (told_range what.reach.range) (told_role what.role)) →
-      new.number ≡ what.number → new.place ≡ 0 → new.left ≡ left → new.callers.items ≡ m.callers.items ++ w ∷ [] → new.sleepers.items ≡ m.sleepers.items →
-      w ≡ record { number = m.number; place = m.place + 1; frame = m.store.frame } →
-      Stands object new (start (with_turn s left) what.number callee what.slot (told_range what.reach.range) (told_role what.role))
-  stands_started s left g w st e sees number place all callers sleepers is = record {
-    ghosts = g;
-    sees = sees;
-    fun = can.callee_is;
-    number = sym number;
-    place = sym place;
-    left = sym all;
-    turns = omega (arith, e, st.turns);
-    going = st.going;
-    callers = (
-      w,
-      m.callers.items,
-      (
-        callers,
-        (
-          record {
-            number = st.number ∙ sym (ap (λ (v : Waiting). v.number) is);
-            place = (let p : suc s.now.place ≡ m.place + 1 = omega (arith, st.place) in p) ∙ sym (ap (λ (v : Waiting). v.place) is);
-            frame = sym st.sees.frame ∙ sym (ap (λ (v : Waiting). v.frame) is);
-            fun = st.fun;
-          },
-          st.callers,
-        ),
-      ),
-    );
-    suspended = subst (λ (rows : List Waiting). AreKeptAs object rows s.suspended) (sym sleepers) st.suspended;
-    handed = (λ slot h. let below : slot < fun.slots = can.into slot h in let same : s.now.fun.slots ≡ fun.slots = ap (λ (f : Fun). f.slots) (same_fun object m s fun st can.here.fun_is) in omega (arith, below, same), handed_behind s.now (suc s.now.place) s.callers st.handed);
-    sliding = st.sliding;
-  }
+module _ (object : Object) (m : Machine) (store : Store) (fun callee : Fun) (what : Start) (can : CanStart object m fun callee what) (act : ActId) (mid live : List acts.Activation)
+    (goes : mid ≡ acts.with_activation m.running (acts.gone_to (m.place + 1)) m.acts) (begins : live ≡ mid ++ acts.started act what.number m.store.counts.blocks (Some m.running) ∷ []) (is_new : acts.IsLive act mid → ⊥) where
+  abbrev machine_started : Machine
+  machine_started = record { store = store; number = what.number; place = 0; left = m.left - 1; acts = live; running = act; sleepers = m.sleepers }
 
-  pub starts : (w : Waiting) →
-      ((f : Fun) (g : Ghosts) (s : State) → Sees g m.store f s → (number left : ℕ) → (after : Ghosts) × Sees after new.store callee (start (with_turn s left) number callee what.slot (told_range what.reach.range) (told_role what.role))) →
-      new.number ≡ what.number → new.place ≡ 0 → new.left ≡ m.left - 1 → m.left ≢ 0 → new.callers.items ≡ m.callers.items ++ w ∷ [] → new.sleepers.items ≡ m.sleepers.items →
-      w ≡ record { number = m.number; place = m.place + 1; frame = m.store.frame } →
-      GoesOn object m new (λ s. take_turn s (λ t. start t what.number callee what.slot (told_range what.reach.range) (told_role what.role)))
-  starts w seen number place left some callers sleepers is = record {
+  abbrev started : State → State
+  started s = start (with_turn s (m.left - 1)) what.number callee what.slot (told_range what.reach.range) (told_role what.role)
+
+  -- it runs, and its caller waits
+  stands_started : (s : State) (g : Ghosts) → Stands object m s → s.left ≡ suc (m.left - 1) → Sees g store callee (started s) → Stands object machine_started (started s)
+  stands_started s g st e sees =
+      let gone = gone_keeps object m s st mid goes in
+      let keeps = then_keeps m.acts mid live s.now.frame gone (started_keeps mid live act what.number m.store.counts.blocks (Some m.running) begins s.now.frame) in
+      record {
+        ghosts = g;
+        sees = sees;
+        fun = can.callee_is;
+        number = refl;
+        place = refl;
+        left = refl;
+        turns = omega (arith, e, st.turns);
+        going = st.going;
+        caller = Some m.running;
+        running = record {
+          one = acts.started act what.number m.store.counts.blocks (Some m.running);
+          is = started_is mid live act what.number m.store.counts.blocks (Some m.running) begins is_new;
+          standing_is = refl;
+          number = refl;
+          frame = ap (λ (c : Counts). c.blocks) (sym st.sees.counts);
+        };
+        callers = (m.running, st.caller, (refl, (stays_behind s st, others_wait object m s st live keeps)));
+        suspended = others_sleep object m s st live keeps;
+        all =
+            let started_one = started_many mid live act what.number m.store.counts.blocks (Some m.running) begins in
+            let gone_all = gone_many object m s st mid goes in
+            omega (arith, started_one, gone_all, st.all);
+        handed = (λ slot h. let below : slot < fun.slots = can.into slot h in let same : s.now.fun.slots ≡ fun.slots = ap (λ (f : Fun). f.slots) (same_fun object m s fun st can.here.fun_is) in omega (arith, below, same), handed_behind s.now (suc s.now.place) s.callers st.handed);
+        sliding = st.sliding;
+      }
+    where
+      stays_behind : (s : State) (st : Stands object m s) → IsPausedAs object live m.running (Running st.caller) (behind s.now)
+      stays_behind s st =
+          let p = waits_behind object m s st mid goes in
+          record {
+            one = p.one;
+            is = started_stays mid live act what.number m.store.counts.blocks (Some m.running) begins m.running p.one p.is;
+            standing_is = p.standing_is;
+            kept = p.kept;
+          }
+
+  pub starts : ((f : Fun) (g : Ghosts) (s : State) → Sees g m.store f s → (number left : ℕ) → (after : Ghosts) × Sees after store callee (start (with_turn s left) number callee what.slot (told_range what.reach.range) (told_role what.role))) → m.left ≢ 0 →
+      GoesOn object m machine_started (λ s. take_turn s (λ t. start t what.number callee what.slot (told_range what.reach.range) (told_role what.role)))
+  starts seen some = record {
     does = λ s st.
         let e : s.left ≡ suc (m.left - 1) = one_less s.left m.left st.left some in
-        let t : State = start (with_turn s (m.left - 1)) what.number callee what.slot (told_range what.reach.range) (told_role what.role) in
-        let so : take_turn s (λ u. start u what.number callee what.slot (told_range what.reach.range) (told_role what.role)) ≡ start (with_turn s (m.left - 1)) what.number callee what.slot (told_range what.reach.range) (told_role what.role) =
+        let so : take_turn s (λ u. start u what.number callee what.slot (told_range what.reach.range) (told_role what.role)) ≡ started s =
         ap (λ (n : ℕ). turn_of s n (λ u. start u what.number callee what.slot (told_range what.reach.range) (told_role what.role))) e in
         let x = seen s.now.fun st.ghosts s st.sees what.number (m.left - 1) in
-        (subst (Stands object new) (sym so) (stands_started s (m.left - 1) x.0 w st e x.1 number place left callers sleepers is), subst (KeepsOutside s) (sym so) (record { input = refl; cut = refl; output = refl }));
+        (subst (Stands object machine_started) (sym so) (stands_started s x.0 st e x.1), subst (KeepsOutside s) (sym so) (record { input = refl; cut = refl; output = refl }));
   }
     where
       one_less : (a b : ℕ) → a ≡ b → b ≢ 0 → a ≡ suc (b - 1)
@@ -146,60 +162,70 @@ start_is_spent object m go none = (
 
 -- RETURNS
 
-no_end : {A : Type 0} (zs : List A) (z : A) → [] ≡ zs ++ z ∷ [] → ⊥
-no_end [] z e = cc
-no_end (w ∷ zs) z e = cc
-
 tails_same : {A : Type 0} (a b : A) (xs ys : List A) → a ∷ xs ≡ b ∷ ys → (a ≡ b) × (xs ≡ ys)
 tails_same a b xs ys h = (cc, cc)
 
-last_same : {A : Type 0} (xs ys : List A) (x y : A) → xs ++ x ∷ [] ≡ ys ++ y ∷ [] → (xs ≡ ys) × (x ≡ y)
-last_same [] [] x y h = (refl, cc)
-last_same [] (b ∷ ys) x y h = absurd (no_end ys y (tails_same x b [] (ys ++ y ∷ []) h).1)
-last_same (a ∷ xs) [] x y h = absurd (no_end xs x (sym (tails_same a y (xs ++ x ∷ []) [] h).1))
-last_same {A = A} (a ∷ xs) (b ∷ ys) x y h =
-    let parts = tails_same a b (xs ++ x ∷ []) (ys ++ y ∷ []) h in
-    let so = last_same xs ys x y parts.1 in
-    (ap (λ (c : A). c ∷ xs) parts.0 ∙ ap (λ (zs : List A). b ∷ zs) so.0, so.1)
-
--- the activation that was kept last
-pub record Popped (object : Object) (w : Waiting) (below : List Waiting) (activations : List Activation) : Type 0 where
+-- the caller
+pub record CalledBy (object : Object) (live : List acts.Activation) (act : ActId) (activations : List Activation) : Type 0 where
   pub first : Activation
   pub rest : List Activation
+  pub next : Option ActId
   pub are : activations ≡ first ∷ rest
-  pub kept : IsKeptAs object w first
-  pub others : AreKeptAs object below rest
+  pub paused : IsPausedAs object live act (Running next) first
+  pub others : AreCallers object live next rest
 
-pub popped : (object : Object) (w : Waiting) (below rows : List Waiting) (activations : List Activation) → AreKeptAs object rows activations → rows ≡ below ++ w ∷ [] → Popped object w below activations
-popped object w below rows [] kept h = absurd (no_end below w (sym kept ∙ h))
-popped object w below rows (a ∷ rest) kept h =
-    let same = last_same kept.1 below kept.0 w (sym kept.2.0 ∙ h) in
-    record {
-      first = a;
-      rest = rest;
-      are = refl;
-      kept = subst (λ (v : Waiting). IsKeptAs object v a) same.1 kept.2.1.0;
-      others = subst (λ (zs : List Waiting). AreKeptAs object zs rest) same.0 kept.2.1.1;
-    }
+pub called_by : (object : Object) (live : List acts.Activation) (act : ActId) (caller : Option ActId) (activations : List Activation) → AreCallers object live caller activations → caller ≡ Some act → CalledBy object live act activations
+called_by object live act caller [] callers h = absurd (apart (sym callers ∙ h))
+  where
+    apart : None ≡ Some act → ⊥
+    apart e = cc
+called_by object live act caller (a ∷ rest) callers h = record {
+  first = a;
+  rest = rest;
+  next = callers.1;
+  are = refl;
+  paused = subst (λ (v : ActId). IsPausedAs object live v (Running callers.1) a) (some_same callers.0 act (sym callers.2.0 ∙ h)) callers.2.1.0;
+  others = callers.2.1.1;
+}
 
-pub none_waits : (object : Object) (rows : List Waiting) (activations : List Activation) → AreKeptAs object rows activations → rows ≡ [] → activations ≡ []
-none_waits object rows [] kept h = refl
-none_waits object rows (a ∷ rest) kept h = absurd (no_end kept.1 kept.0 (sym h ∙ kept.2.0))
+pub none_called : (object : Object) (live : List acts.Activation) (caller : Option ActId) (activations : List Activation) → AreCallers object live caller activations → caller ≡ None → activations ≡ []
+none_called object live caller [] callers h = refl
+none_called object live caller (a ∷ rest) callers h = absurd (apart callers.0 (sym h ∙ callers.2.0))
+  where
+    apart : (act : ActId) → None ≡ Some act → ⊥
+    apart act e = cc
+
+module _ (object : Object) (m : Machine) (s : State) (st : Stands object m s) where
+  pub none_waits : HasCaller m None → s.callers ≡ []
+  none_waits told = none_called object m.acts st.caller s.callers st.callers (caller_told object m s st None told)
+
+  module _ (act : ActId) (told : HasCaller m (Some act)) where
+    abbrev pub own_caller : CalledBy object m.acts act s.callers
+    own_caller = called_by object m.acts act st.caller s.callers st.callers (caller_told object m s st (Some act) told)
+
+    pub caller_live : acts.IsLive act m.acts
+    caller_live = live_so act m.acts own_caller.paused.one own_caller.paused.is
+
+    pub caller_kept : (w : Waiting) → WaitsAs m act w → IsKeptAs object w own_caller.first
+    caller_kept w h = kept_as object m.acts act (Running own_caller.next) own_caller.first w own_caller.paused h
 
 pub next_is : (object : Object) (w : Waiting) (a : Activation) (next : Fun) → IsKeptAs object w a → Some next ≡ slice_get object.funs w.number → a.fun ≡ next
 next_is object w a next k h = some_same a.fun next (sym k.fun ∙ ap (nth object.funs) k.number ∙ sym (nth_get object.funs w.number) ∙ sym h)
 
-pub waits_so : (object : Object) (s : State) (w : Waiting) (below : List Waiting) (next : Fun) → Popped object w below s.callers → Some next ≡ slice_get object.funs w.number → Waits (Some w.frame) next s
-waits_so object s w below next p h = (p.first, p.rest, p.are, p.kept.frame, next_is object w p.first next p.kept h)
+pub waits_so : (object : Object) (m : Machine) (s : State) (st : Stands object m s) (act : ActId) (w : Waiting) (next : Fun) → HasCaller m (Some act) → WaitsAs m act w → Some next ≡ slice_get object.funs w.number → Waits (Some w.frame) next s
+waits_so object m s st act w next caller told h =
+    let p = own_caller object m s st act caller in
+    let kept = caller_kept object m s st act caller w told in
+    (p.first, p.rest, p.are, kept.frame, next_is object w p.first next kept h)
 
 pub there_so : (object : Object) (number : ℕ) (f : Fun) → nth object.funs number ≡ Some f → IsSome (slice_get object.funs number)
 there_so object number f h = ap is_some (nth_get object.funs number ∙ h)
 
 -- the caller's function is there
-pub next_there : (object : Object) (m : Machine) (fun : Fun) (i : Instr) (w : Waiting) (below : List Waiting) → IsAt object m fun i → m.callers.items ≡ below ++ w ∷ [] → IsSome (slice_get object.funs w.number)
-next_there object m fun i w below at items =
-    let p = popped object w below m.callers.items at.state.callers at.stands.callers items in
-    there_so object w.number p.first.fun (ap (nth object.funs) (sym p.kept.number) ∙ p.kept.fun)
+pub next_there : (object : Object) (m : Machine) (fun : Fun) (i : Instr) (act : ActId) (w : Waiting) → IsAt object m fun i → HasCaller m (Some act) → WaitsAs m act w → IsSome (slice_get object.funs w.number)
+next_there object m fun i act w at caller told =
+    let kept = caller_kept object m at.state at.stands act caller w told in
+    there_so object w.number (own_caller object m at.state at.stands act caller).first.fun (ap (nth object.funs) (sym kept.number) ∙ kept.fun)
 
 in_range : (object : Object) (number : ℕ) → number < length object.funs → IsSome (slice_get object.funs number)
 in_range object number h = let f = nth_there object.funs number h in there_so object number f.0 f.1
@@ -231,17 +257,30 @@ project_is object s number slot word into callee end is h =
     ap (λ (o : Option Fun). with_some s kind.Range o (λ f. hands_to s f slot word (λ x. check s kind.Slot (is_empty (own_slot s into)) (take_turn s (λ t. start t number f slot x.range (Projected into)))))) (sym (nth_get object.funs number) ∙ sym is) ∙ h
 
 -- none waits, so none goes on
-pub none_goes_back : (object : Object) (m : Machine) (fun next : Fun) (store : Store) (i : Instr) (step : State → State) → IsAt object m fun i → m.callers.items ≡ [] → LeadsTo fun next m.store store (Waits None next) Returned step → ⊥
+pub none_goes_back : (object : Object) (m : Machine) (fun next : Fun) (store : Store) (i : Instr) (step : State → State) → IsAt object m fun i → HasCaller m None → LeadsTo fun next m.store store (Waits None next) Returned step → ⊥
 none_goes_back object m fun next store i step at none leads =
     let s = at.state in
-    let waits : s.callers ≡ [] = none_waits object m.callers.items s.callers at.stands.callers none in
+    let waits : s.callers ≡ [] = none_waits object m s at.stands none in
     let d = leads.does at.stands.ghosts s (sees_fun object m s fun at.stands at.fun_is) waits in
     absurd (empty d.2.back.caller d.2.back.rest (sym waits ∙ d.2.back.waits))
   where
     empty : (a : Activation) (rest : List Activation) → [] ≡ a ∷ rest → ⊥
     empty a rest e = cc
 
-module _ (object : Object) (m new : Machine) (s t : State) (st : Stands object m s) (w : Waiting) (below : List Waiting) (p : Popped object w below s.callers) (back : GoesBack s t) where
+-- the machine goes on with the caller
+pub record GoesBackTo (m new : Machine) (act : ActId) (w : Waiting) : Type 0 where
+  pub number : new.number ≡ w.number
+  pub place : new.place ≡ w.place
+  pub left : new.left ≡ m.left
+  pub running : new.running ≡ act
+
+module _ (object : Object) (m new : Machine) (s t : State) (st : Stands object m s) (act : ActId) (w : Waiting) (caller : HasCaller m (Some act)) (told : WaitsAs m act w) (goes : GoesBackTo m new act w) (keeps : KeepsOthers m.acts new.acts s.now.frame) (back : GoesBack s t) where
+  abbrev p : CalledBy object m.acts act s.callers
+  p = own_caller object m s st act caller
+
+  kept : IsKeptAs object w p.first
+  kept = caller_kept object m s st act caller w told
+
   now_is : t.now ≡ p.first
   now_is = back.now ∙ (tails_same back.caller p.first back.rest p.rest (sym back.waits ∙ p.are)).0
 
@@ -251,18 +290,32 @@ module _ (object : Object) (m new : Machine) (s t : State) (st : Stands object m
   handed_on : AreHanded p.first p.rest
   handed_on = (subst (AreHanded s.now) p.are st.handed).1
 
-  pub stands_back : (g : Ghosts) (next : Fun) → Some next ≡ slice_get object.funs w.number → Sees g new.store next t → new.number ≡ w.number → new.place ≡ w.place → new.left ≡ m.left → new.callers.items ≡ below → AreKeptAs object new.sleepers.items t.suspended → AreSliding t.suspended → Stands object new t
-  stands_back g next is sees number place left callers sleepers sliding = record {
+  -- neither the caller nor those behind it have the frame of the one that ran
+  away : (p.first.frame ≢ s.now.frame) × (times s.now.frame (frames_of p.rest) ≡ 0)
+  away = none_in s.now.frame p.first.frame (frames_of p.rest) (subst (λ (xs : List Activation). times s.now.frame (frames_of xs) ≡ 0) p.are (own_apart s.now.frame s.callers s.suspended st.sees.apart).0)
+
+  runs : IsRunningAs new.acts new.running p.next t.now
+  runs = subst (λ (a : Activation). IsRunningAs new.acts new.running p.next a) (sym now_is) (subst (λ (v : ActId). IsRunningAs new.acts v p.next p.first) (sym goes.running)
+      (runs_on object new.acts act p.next p.first (paused_stays object m.acts new.acts s.now.frame keeps act (Running p.next) p.first away.0 p.paused)))
+
+  pub stands_back : (g : Ghosts) (next : Fun) → Some next ≡ slice_get object.funs w.number → Sees g new.store next t → AreSleepers object new.acts new.sleepers.items t.suspended → length new.acts ≡ length s.callers + length t.suspended → AreSliding t.suspended → Stands object new t
+  stands_back g next is sees sleepers size sliding = record {
     ghosts = g;
-    sees = subst (λ (f : Fun). Sees g new.store f t) (sym (ap (λ (a : Activation). a.fun) now_is ∙ next_is object w p.first next p.kept is)) sees;
-    fun = subst (λ (a : Activation). nth object.funs a.number ≡ Some a.fun) (sym now_is) p.kept.fun;
-    number = ap (λ (a : Activation). a.number) now_is ∙ p.kept.number ∙ sym number;
-    place = ap (λ (a : Activation). a.place) now_is ∙ p.kept.place ∙ sym place;
-    left = back.beside.left ∙ st.left ∙ sym left;
+    sees = subst (λ (f : Fun). Sees g new.store f t) (sym (ap (λ (a : Activation). a.fun) now_is ∙ next_is object w p.first next kept is)) sees;
+    fun = subst (λ (a : Activation). nth object.funs a.number ≡ Some a.fun) (sym now_is) kept.fun;
+    number = ap (λ (a : Activation). a.number) now_is ∙ kept.number ∙ sym goes.number;
+    place = ap (λ (a : Activation). a.place) now_is ∙ kept.place ∙ sym goes.place;
+    left = back.beside.left ∙ st.left ∙ sym goes.left;
     turns = omega (arith, back.beside.left, back.beside.turns, st.turns);
     going = back.beside.stop ∙ st.going;
-    callers = subst (λ (zs : List Waiting). AreKeptAs object zs t.callers) (sym callers) (subst (AreKeptAs object below) (sym callers_are) p.others);
+    caller = p.next;
+    running = runs;
+    callers = subst (AreCallers object new.acts p.next) (sym callers_are) (callers_stay object m.acts new.acts s.now.frame keeps p.next p.rest away.1 p.others);
     suspended = sleepers;
+    all =
+        let waiting : length s.callers ≡ suc (length p.rest) = ap (λ (xs : List Activation). length xs) p.are in
+        let left : length t.callers ≡ length p.rest = ap (λ (xs : List Activation). length xs) callers_are in
+        omega (arith, size, waiting, left);
     handed = subst (λ (a : Activation). AreHanded a t.callers) (sym now_is) (subst (AreHanded p.first) (sym callers_are) handed_on);
     sliding = sliding;
   }
@@ -270,17 +323,18 @@ module _ (object : Object) (m new : Machine) (s t : State) (st : Stands object m
   pub outside_back : KeepsOutside s t
   outside_back = record { input = back.beside.input; cut = back.beside.cut; output = back.beside.output }
 
-pub returned : (object : Object) (m new : Machine) (fun next : Fun) (w : Waiting) (below : List Waiting) (step : State → State) → nth object.funs m.number ≡ Some fun → Some next ≡ slice_get object.funs w.number → m.callers.items ≡ below ++ w ∷ [] →
-    LeadsTo fun next m.store new.store (Waits (Some w.frame) next) Returned step → new.number ≡ w.number → new.place ≡ w.place → new.left ≡ m.left → new.callers.items ≡ below → new.sleepers.items ≡ m.sleepers.items → GoesOn object m new step
-returned object m new fun next w below step is next_is items leads number place left callers sleepers = record {
+pub returned : (object : Object) (m new : Machine) (fun next : Fun) (act : ActId) (w : Waiting) (step : State → State) → nth object.funs m.number ≡ Some fun → Some next ≡ slice_get object.funs w.number → HasCaller m (Some act) → WaitsAs m act w →
+    LeadsTo fun next m.store new.store (Waits (Some w.frame) next) Returned step → GoesBackTo m new act w → acts.HaveOwnIds m.acts → new.acts ≡ acts.without_activation m.running m.acts → new.sleepers.items ≡ m.sleepers.items → GoesOn object m new step
+returned object m new fun next act w step is next_is caller told leads goes own ends sleepers = record {
   does = λ s st.
-      let p = popped object w below m.callers.items s.callers st.callers items in
-      let d = leads.does st.ghosts s (sees_fun object m s fun st is) (waits_so object s w below next p next_is) in
-      let back = d.2.back in (
-        stands_back object m new s (step s) st w below p back d.0 next next_is d.1 number place left callers
-            (subst (AreKeptAs object new.sleepers.items) (sym d.2.suspended) (subst (λ (zs : List Waiting). AreKeptAs object zs s.suspended) (sym sleepers) st.suspended))
+      let d = leads.does st.ghosts s (sees_fun object m s fun st is) (waits_so object m s st act w next caller told next_is) in
+      let back = d.2.back in
+      let keeps = now_ended object m s st new.acts ends in (
+        stands_back object m new s (step s) st act w caller told goes keeps back d.0 next next_is d.1
+            (subst (AreSleepers object new.acts new.sleepers.items) (sym d.2.suspended) (subst (λ (zs : List ActId). AreSleepers object new.acts zs s.suspended) (sym sleepers) (others_sleep object m s st new.acts keeps)))
+            (let same : length (step s).suspended ≡ length s.suspended = ap (λ (xs : List Activation). length xs) d.2.suspended in let size = now_one_less object m s st new.acts ends own in omega (arith, size, same))
             (subst AreSliding (sym d.2.suspended) st.sliding),
-        outside_back object m new s (step s) st w below p back,
+        outside_back object m new s (step s) st act w caller told goes keeps back,
       );
 }
 

@@ -1,5 +1,5 @@
 -- What is known of the instruction that the machine is about to do.
-use Rattle.std.proofs.Common.{◌≡◌, ◌<◌, ◌≤◌, ◌+◌, ◌-◌, ◌^◌, ℕ, zero, suc, Bool, List, [], ◌∷◌, length, Option, Some, None, slice_get, refl, sym, ap, subst, ◌∙◌, arith}
+use Rattle.std.proofs.Common.{◌≡◌, ◌<◌, ◌≤◌, ◌+◌, ◌-◌, ◌^◌, ℕ, zero, suc, Bool, List, [], ◌∷◌, length, Some, None, slice_get, refl, sym, ap, subst, ◌∙◌, arith}
 use Rattle.std.specs.List.{AllByRecursion}
 use Rattle.hy_base.specs.declared.run.Counts.{Counts}
 use Rattle.hy_object.specs.declared.instr.Instr.{Instr}
@@ -12,7 +12,7 @@ use Rattle.hy_store.specs.Calls.{no_ghosts}
 use Rattle.hy_store.specs.Sees.{IsSeen, Sees}
 use Rattle.hy_store.proofs.Rows.{nth_get, nth_in}
 use Rattle.hy_checked.specs.declared.machine.Machine.{Machine}
-use Rattle.hy_checked.specs.Standing.{IsAt, IsStanding, Stands}
+use Rattle.hy_checked.specs.Standing.{IsAt, IsRunningAs, IsStanding, Stands}
 
 pub some_same : {A : Type 0} (x y : A) → Some x ≡ Some y → x ≡ y
 some_same x y h = cc
@@ -70,8 +70,8 @@ pub main_words : (object : Object) (main : Fun) → IsInGrammar object → slice
 main_words object main grammar h = (fun_in object 0 main grammar (sym (nth_get object.funs 0) ∙ h)).words
 
 pub begun : (object : Object) (m : Machine) (main : Fun) (input : List ℕ) (cut : Bool) (n left : ℕ) → slice_get object.funs 0 ≡ Some main → Sees no_ghosts m.store main (begin object input cut (suc left)) → n ≡ suc left → n ≤ 2 ^ 32
-    → m.number ≡ 0 → m.place ≡ 0 → m.left ≡ n - 1 → m.callers.items ≡ [] → m.sleepers.items ≡ [] → Stands object m (begin object input cut (suc left))
-begun object m main input cut n left h sees e few number place all callers sleepers = record {
+    → m.number ≡ 0 → m.place ≡ 0 → m.left ≡ n - 1 → IsRunningAs m.acts m.running None (begin object input cut (suc left)).now → m.sleepers.items ≡ [] → length m.acts ≡ 1 → Stands object m (begin object input cut (suc left))
+begun object m main input cut n left h sees e few number place all running sleepers size = record {
   ghosts = no_ghosts;
   sees = subst (λ (f : Fun). Sees no_ghosts m.store f (begin object input cut (suc left))) (sym (main_is object main h)) sees;
   fun = sym (nth_get object.funs 0) ∙ h ∙ ap (λ (f : Fun). Some f) (sym (main_is object main h));
@@ -80,8 +80,11 @@ begun object m main input cut n left h sees e few number place all callers sleep
   left = omega arith;
   turns = omega arith;
   going = refl;
-  callers = callers;
+  caller = None;
+  running = running;
+  callers = refl;
   suspended = sleepers;
+  all = size;
   handed = tt;
   sliding = tt;
 }

@@ -1,5 +1,8 @@
 -- What is lent to suspended subscripts.
 use Rattle.std.proofs.Common.{◌≡◌, ◌<◌, ◌≤◌, ◌+◌, ◌&&◌, ℕ, zero, suc, Bool, true, false, not, List, [], ◌∷◌, ◌++◌, length, Option, Some, None, IsSome, get_or, slice_get, ◌⊎◌, inl, inr, refl, sym, ap, subst, ◌∙◌, arith}
+use Rattle.hy_frames.specs.declared.id.ActId.{ActId}
+use Rattle.hy_frames.specs.declared.id.Standing.TheVariants.{Suspended}
+use Rattle.hy_frames.specs.Activations as acts
 use Rattle.hy_object.specs.declared.object.Fun.{Fun}
 use Rattle.hy_object.specs.declared.object.Object.{Object}
 use Rattle.hy_object.specs.declared.stuck.Kind.TheVariants as kind
@@ -15,7 +18,8 @@ use Rattle.hy_store.specs.Frames.{kept, slot_in}
 use Rattle.hy_store.specs.Sees.{Ghosts, Sees, told_slot}
 use Rattle.hy_store.proofs.Waking.{nth_behind as behind_callers}
 use Rattle.hy_checked.specs.declared.machine.Machine.{Machine}
-use Rattle.hy_checked.specs.Standing.{AreKeptAs, IsKeptAs, Stands}
+use Rattle.hy_checked.specs.Standing.{AreSleepers, IsKeptAs, IsPausedAs, Stands, WaitsAs}
+use Rattle.hy_checked.proofs.Acting.{kept_as, live_so}
 use Rattle.hy_checked.proofs.Calling.{next_is, there_so}
 use Rattle.hy_checked.proofs.Known.{sees_fun, some_same}
 use Rattle.hy_checked.proofs.Sleepers.{at_place}
@@ -29,18 +33,18 @@ close_is s slot lent h = same (opened_in (own_slot s slot)) h
     same None g = refl
     same (Some this) g = ap (λ (b : Bool). check s kind.Slot (is_childless s this && b) (closes s slot this)) (g this refl)
 
-one_more : (rows below : List Waiting) (v : Waiting) (k : ℕ) (w : Waiting) → rows ≡ below ++ v ∷ [] → nth below k ≡ Some w → nth rows k ≡ Some w
-one_more rows below v k w is h = ap (λ (zs : List Waiting). nth zs k) is ∙ nth_front below (v ∷ []) k (nth_in below k w h) ∙ h
+one_more : (rows below : List ActId) (v : ActId) (k : ℕ) (w : ActId) → rows ≡ below ++ v ∷ [] → nth below k ≡ Some w → nth rows k ≡ Some w
+one_more rows below v k w is h = ap (λ (zs : List ActId). nth zs k) is ∙ nth_front below (v ∷ []) k (nth_in below k w h) ∙ h
 
-pub none_lent : (object : Object) (s : State) (this : ℕ) (rows : List Waiting) (activations : List Activation) → AreKeptAs object rows activations →
-    ((k j : ℕ) (w : Waiting) (a : Activation) → nth rows k ≡ Some w → IsKeptAs object w a → nth activations j ≡ Some a → was_lent s this a ≡ false) → none_was_lent s this activations ≡ true
-none_lent object s this rows [] kept each = refl
-none_lent object s this rows (a ∷ rest) kept each =
-    let v : Waiting = kept.0 in
-    let below : List Waiting = kept.1 in
-    let here : nth rows (length below) ≡ Some v = ap (λ (zs : List Waiting). nth zs (length below)) kept.2.0 ∙ nth_behind below (v ∷ []) (length below) 0 (omega arith) in
+pub none_lent : (object : Object) (live : List acts.Activation) (s : State) (this : ℕ) (rows : List ActId) (activations : List Activation) → AreSleepers object live rows activations →
+    ((k j : ℕ) (act : ActId) (a : Activation) → nth rows k ≡ Some act → IsPausedAs object live act Suspended a → nth activations j ≡ Some a → was_lent s this a ≡ false) → none_was_lent s this activations ≡ true
+none_lent object live s this rows [] kept each = refl
+none_lent object live s this rows (a ∷ rest) kept each =
+    let v : ActId = kept.0 in
+    let below : List ActId = kept.1 in
+    let here : nth rows (length below) ≡ Some v = ap (λ (zs : List ActId). nth zs (length below)) kept.2.0 ∙ nth_behind below (v ∷ []) (length below) 0 (omega arith) in
     let not_it : was_lent s this a ≡ false = each (length below) 0 v a here kept.2.1.0 refl in
-    let others : none_was_lent s this rest ≡ true = none_lent object s this below rest kept.2.1.1 (λ k j w b h q i. each k (suc j) w b (one_more rows below v k w kept.2.0 h) q i) in
+    let others : none_was_lent s this rest ≡ true = none_lent object live s this below rest kept.2.1.1 (λ k j w b h q i. each k (suc j) w b (one_more rows below v k w kept.2.0 h) q i) in
     both (was_lent s this a) (none_was_lent s this rest) not_it others
   where
     both : (x y : Bool) → x ≡ false → y ≡ true → (not x && y) ≡ true
@@ -58,31 +62,31 @@ some_lent s this (b ∷ rest) (suc j) a h lent = later (was_lent s this b) (none
     later true y k = refl
     later false y k = k
 
-both_kept : (object : Object) (a : Activation) (rest : List Activation) (w : Waiting) → ((j : ℕ) × ((b : Activation) × ((nth rest j ≡ Some b) × IsKeptAs object w b))) → (j : ℕ) × ((b : Activation) × ((nth (a ∷ rest) j ≡ Some b) × IsKeptAs object w b))
-both_kept object a rest w p = (suc p.0, p.1)
+both_kept : (object : Object) (live : List acts.Activation) (a : Activation) (rest : List Activation) (w : ActId) → ((j : ℕ) × ((b : Activation) × ((nth rest j ≡ Some b) × IsPausedAs object live w Suspended b))) → (j : ℕ) × ((b : Activation) × ((nth (a ∷ rest) j ≡ Some b) × IsPausedAs object live w Suspended b))
+both_kept object live a rest w p = (suc p.0, p.1)
 
 -- whoever is kept is suspended
-pub paired : (object : Object) (rows : List Waiting) (activations : List Activation) → AreKeptAs object rows activations → (k : ℕ) (w : Waiting) → nth rows k ≡ Some w → (j : ℕ) × ((b : Activation) × ((nth activations j ≡ Some b) × IsKeptAs object w b))
-paired object rows [] kept k w h = let e : nth [] k ≡ Some w = ap (λ (zs : List Waiting). nth zs k) (sym kept) ∙ h in absurd (cc)
-paired object rows (a ∷ rest) kept k w h =
-    let v : Waiting = kept.0 in
-    let below : List Waiting = kept.1 in
-    let at : nth (below ++ v ∷ []) k ≡ Some w = ap (λ (zs : List Waiting). nth zs k) (sym kept.2.0) ∙ h in
-    let so : nth below k ≡ Some w → (j : ℕ) × ((b : Activation) × ((nth rest j ≡ Some b) × IsKeptAs object w b)) = λ q. paired object below rest kept.2.1.1 k w q in
+pub paired : (object : Object) (live : List acts.Activation) (rows : List ActId) (activations : List Activation) → AreSleepers object live rows activations → (k : ℕ) (w : ActId) → nth rows k ≡ Some w → (j : ℕ) × ((b : Activation) × ((nth activations j ≡ Some b) × IsPausedAs object live w Suspended b))
+paired object live rows [] kept k w h = let e : nth [] k ≡ Some w = ap (λ (zs : List ActId). nth zs k) (sym kept) ∙ h in absurd (cc)
+paired object live rows (a ∷ rest) kept k w h =
+    let v : ActId = kept.0 in
+    let below : List ActId = kept.1 in
+    let at : nth (below ++ v ∷ []) k ≡ Some w = ap (λ (zs : List ActId). nth zs k) (sym kept.2.0) ∙ h in
+    let so : nth below k ≡ Some w → (j : ℕ) × ((b : Activation) × ((nth rest j ≡ Some b) × IsPausedAs object live w Suspended b)) = λ q. paired object live below rest kept.2.1.1 k w q in
     elim (where_is below v k w at) [
-      | inl q ↦ both_kept object a rest w (so q)
-      | inr e ↦ (0, (a, (refl, subst (λ (u : Waiting). IsKeptAs object u a) e kept.2.1.0)))
+      | inl q ↦ both_kept object live a rest w (so q)
+      | inr e ↦ (0, (a, (refl, subst (λ (u : ActId). IsPausedAs object live u Suspended a) e kept.2.1.0)))
     ]
   where
-    where_is : (below : List Waiting) (v : Waiting) (k : ℕ) (w : Waiting) → nth (below ++ v ∷ []) k ≡ Some w → (nth below k ≡ Some w) ⊎ (v ≡ w)
+    where_is : (below : List ActId) (v : ActId) (k : ℕ) (w : ActId) → nth (below ++ v ∷ []) k ≡ Some w → (nth below k ≡ Some w) ⊎ (v ≡ w)
     where_is [] v zero w h = inr (cc)
     where_is [] v (suc k) w h = absurd (cc)
     where_is (b ∷ below) v zero w h = inl h
     where_is (b ∷ below) v (suc k) w h = where_is below v k w h
 
 -- which one is read
-pub one_at : (rows : List Waiting) (at : ℕ) (w : Waiting) → at < length rows → w ≡ get_or rows at w → nth rows at ≡ Some w
-one_at rows at w below is = at_place rows at w below ∙ ap (λ (v : Waiting). Some v) (sym is)
+pub one_at : (rows : List ActId) (at : ℕ) (w : ActId) → at < length rows → w ≡ get_or rows at w → nth rows at ≡ Some w
+one_at rows at w below is = at_place rows at w below ∙ ap (λ (v : ActId). Some v) (sym is)
 
 -- the answer of the store on one sleeper
 abbrev pub Tells : Store → Fun → Waiting → Fun → ℕ → Bool → Type 0
@@ -90,7 +94,7 @@ Tells store fun w its name r = (g : Ghosts) (s : State) → Sees g store fun s �
 
 -- no sleeper before that place was lent the access
 abbrev pub NoneBelow : Object → Machine → (name at : ℕ) → Type 0
-NoneBelow object m name at = (s : State) → Stands object m s → (k j : ℕ) (w : Waiting) (a : Activation) → k < at → nth m.sleepers.items k ≡ Some w → IsKeptAs object w a → nth s.suspended j ≡ Some a → was_lent s name a ≡ false
+NoneBelow object m name at = (s : State) → Stands object m s → (k j : ℕ) (act : ActId) (a : Activation) → k < at → nth m.sleepers.items k ≡ Some act → IsPausedAs object m.acts act Suspended a → nth s.suspended j ≡ Some a → was_lent s name a ≡ false
 
 pub told_one : (object : Object) (m : Machine) (fun its : Fun) (w : Waiting) (name : ℕ) (r : Bool) → nth object.funs m.number ≡ Some fun → Some its ≡ slice_get object.funs w.number → Tells m.store fun w its name r
     → (s : State) → Stands object m s → (j : ℕ) (a : Activation) → IsKeptAs object w a → nth s.suspended j ≡ Some a → was_lent s name a ≡ r
@@ -98,14 +102,14 @@ told_one object m fun its w name r is its_is tells s st j a kept h =
     let p = behind_callers s.callers s.suspended j a h in
     tells st.ghosts s (sees_fun object m s fun st is) p.0 a p.1 kept.frame (ap (λ (f : Fun). f.accesses) (next_is object w a its kept its_is))
 
-pub one_below : (object : Object) (m : Machine) (fun its : Fun) (w : Waiting) (name at : ℕ) (r : Bool) → nth object.funs m.number ≡ Some fun → Some its ≡ slice_get object.funs w.number → Tells m.store fun w its name r → r ≡ false
-    → nth m.sleepers.items at ≡ Some w → NoneBelow object m name at → NoneBelow object m name (at + 1)
-one_below object m fun its w name at r is its_is tells not_it here none s st k j v a below q kept h =
+pub one_below : (object : Object) (m : Machine) (fun its : Fun) (act : ActId) (w : Waiting) (name at : ℕ) (r : Bool) → nth object.funs m.number ≡ Some fun → Some its ≡ slice_get object.funs w.number → Tells m.store fun w its name r → r ≡ false
+    → nth m.sleepers.items at ≡ Some act → WaitsAs m act w → NoneBelow object m name at → NoneBelow object m name (at + 1)
+one_below object m fun its act w name at r is its_is tells not_it here told none s st k j v a below q kept h =
     elim (here_or k at below) [
       | inl less ↦ none s st k j v a less q kept h
       | inr same ↦
-          let e : v ≡ w = some_same v w (sym q ∙ ap (nth m.sleepers.items) same ∙ here) in
-          told_one object m fun its w name r is its_is tells s st j a (subst (λ (u : Waiting). IsKeptAs object u a) e kept) h ∙ not_it
+          let e : v ≡ act = some_same v act (sym q ∙ ap (nth m.sleepers.items) same ∙ here) in
+          told_one object m fun its w name r is its_is tells s st j a (kept_as object m.acts act Suspended a w (subst (λ (u : ActId). IsPausedAs object m.acts u Suspended a) e kept) told) h ∙ not_it
     ]
   where
     here_or : (k at : ℕ) → k < at + 1 → (k < at) ⊎ (k ≡ at)
@@ -118,17 +122,21 @@ name_is object m s slot name this got st h a b = some_same name this (sym a ∙ 
 pub none_opened : (object : Object) (m : Machine) (s : State) (slot this : ℕ) (got : Slot) → Stands object m s → got ≡ slot_in (kept m.store.frames m.store.frame) slot → opened_in (told_slot got) ≡ None → opened_in (own_slot s slot) ≡ Some this → ⊥
 none_opened object m s slot this got st h a b = let e : None ≡ Some this = sym a ∙ ap opened_in (ap told_slot h ∙ sym (st.sees.slots slot)) ∙ b in cc
 
-pub sleeper_known : (object : Object) (m : Machine) (s : State) (at : ℕ) (w : Waiting) → Stands object m s → nth m.sleepers.items at ≡ Some w → IsSome (slice_get object.funs w.number)
-sleeper_known object m s at w st h =
-    let p = paired object m.sleepers.items s.suspended st.suspended at w h in
-    there_so object w.number p.1.0.fun (ap (nth object.funs) (sym p.1.1.1.number) ∙ p.1.1.1.fun)
+pub sleeper_known : (object : Object) (m : Machine) (s : State) (at : ℕ) (act : ActId) (w : Waiting) → Stands object m s → nth m.sleepers.items at ≡ Some act → WaitsAs m act w → IsSome (slice_get object.funs w.number)
+sleeper_known object m s at act w st h told =
+    let p = paired object m.acts m.sleepers.items s.suspended st.suspended at act h in
+    let kept = kept_as object m.acts act Suspended p.1.0 w p.1.1.1 told in
+    there_so object w.number p.1.0.fun (ap (nth object.funs) (sym kept.number) ∙ kept.fun)
 
-pub is_some_lent : (object : Object) (m : Machine) (fun its : Fun) (w : Waiting) (name at : ℕ) (r : Bool) → nth object.funs m.number ≡ Some fun → Some its ≡ slice_get object.funs w.number → Tells m.store fun w its name r → r ≡ true
-    → nth m.sleepers.items at ≡ Some w → (s : State) → Stands object m s → (this : ℕ) → name ≡ this → none_was_lent s this s.suspended ≡ false
-is_some_lent object m fun its w name at r is its_is tells it here s st this same =
-    let p = paired object m.sleepers.items s.suspended st.suspended at w here in
-    subst (λ (n : ℕ). none_was_lent s n s.suspended ≡ false) same (some_lent s name s.suspended p.0 p.1.0 p.1.1.0 (told_one object m fun its w name r is its_is tells s st p.0 p.1.0 p.1.1.1 p.1.1.0 ∙ it))
+pub sleeper_live : (object : Object) (m : Machine) (s : State) (at : ℕ) (act : ActId) → Stands object m s → nth m.sleepers.items at ≡ Some act → acts.IsLive act m.acts
+sleeper_live object m s at act st h = let p = paired object m.acts m.sleepers.items s.suspended st.suspended at act h in live_so act m.acts p.1.1.1.one p.1.1.1.is
+
+pub is_some_lent : (object : Object) (m : Machine) (fun its : Fun) (act : ActId) (w : Waiting) (name at : ℕ) (r : Bool) → nth object.funs m.number ≡ Some fun → Some its ≡ slice_get object.funs w.number → Tells m.store fun w its name r → r ≡ true
+    → nth m.sleepers.items at ≡ Some act → WaitsAs m act w → (s : State) → Stands object m s → (this : ℕ) → name ≡ this → none_was_lent s this s.suspended ≡ false
+is_some_lent object m fun its act w name at r is its_is tells it here told s st this same =
+    let p = paired object m.acts m.sleepers.items s.suspended st.suspended at act here in
+    subst (λ (n : ℕ). none_was_lent s n s.suspended ≡ false) same (some_lent s name s.suspended p.0 p.1.0 p.1.1.0 (told_one object m fun its w name r is its_is tells s st p.0 p.1.0 (kept_as object m.acts act Suspended p.1.0 w p.1.1.1 told) p.1.1.0 ∙ it))
 
 pub all_below_end : (object : Object) (m : Machine) (name at : ℕ) → length m.sleepers.items ≤ at → NoneBelow object m name at → (s : State) → Stands object m s → (this : ℕ) → name ≡ this → none_was_lent s this s.suspended ≡ true
 all_below_end object m name at le none s st this same =
-    subst (λ (n : ℕ). none_was_lent s n s.suspended ≡ true) same (none_lent object s name m.sleepers.items s.suspended st.suspended (λ k j w a h kept q. let less : k < length m.sleepers.items = nth_in m.sleepers.items k w h in none s st k j w a (omega (arith, less, le)) h kept q))
+    subst (λ (n : ℕ). none_was_lent s n s.suspended ≡ true) same (none_lent object m.acts s name m.sleepers.items s.suspended st.suspended (λ k j act a h kept q. let less : k < length m.sleepers.items = nth_in m.sleepers.items k act h in none s st k j act a (omega (arith, less, le)) h kept q))

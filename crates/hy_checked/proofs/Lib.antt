@@ -1,4 +1,6 @@
 pub mod Known
+pub mod Acting
+pub mod Pausing
 pub mod Lent
 pub mod Lifting
 pub mod Turning

@@ -1,14 +1,13 @@
 -- What an instruction does to the store alone, the machine does.
-use Rattle.std.proofs.Common.{◌≡◌, ◌≢◌, ◌≤◌, ◌+◌, ◌^◌, ℕ, suc, Bool, true, false, List, [], ◌∷◌, Option, Some, None, Result, Ok, Err, IsErrAnd, refl, sym, ap, subst, ◌∙◌, arith}
-use Rattle.hy_base.specs.declared.run.Counts.{Counts}
-use Rattle.hy_base.specs.declared.run.End.{End}
-use Rattle.hy_base.specs.declared.run.End.TheVariants as end
+use Rattle.std.proofs.Common.{◌≡◌, ◌+◌, ℕ, suc, List, [], ◌∷◌, length, Some, Result, Ok, Err, IsErrAnd, refl, sym, ap, subst, ◌∙◌, arith}
 use Rattle.hy_base.specs.declared.run.RunCause.TheVariants as cause
+use Rattle.hy_frames.specs.declared.id.ActId.{ActId}
+use Rattle.hy_frames.specs.Activations as acts
 use Rattle.hy_object.specs.declared.instr.Instr.{Instr}
 use Rattle.hy_object.specs.declared.object.Fun.{Fun}
 use Rattle.hy_object.specs.declared.object.Object.{Object}
 use Rattle.hy_object.specs.declared.stuck.Kind.{Kind}
-use Rattle.hy_object.specs.Checks.{ends, goes_to, next, stuck}
+use Rattle.hy_object.specs.Checks.{stuck}
 use Rattle.hy_object.specs.Controls.{behind}
 use Rattle.hy_object.specs.States.{Activation, State, nth}
 use Rattle.hy_object.specs.Steps.{does}
@@ -17,18 +16,17 @@ use Rattle.hy_store.specs.declared.halt.Halt.TheVariants as halt
 use Rattle.hy_store.specs.declared.store.Store.{Store}
 use Rattle.hy_store.specs.Replies.{Forward, Goes, Replies}
 use Rattle.hy_store.specs.Sees.{Ghosts, Sees}
-use Rattle.hy_store.proofs.Storing.{seen_at}
 use Rattle.hy_checked.specs.declared.machine.Machine.{Machine}
-use Rattle.hy_checked.specs.declared.machine.Waiting.{Waiting}
 use Rattle.hy_checked.specs.Answers.{Answers, EndsRun, GoesOn, IsUnmoved, KeepsOutside}
-use Rattle.hy_checked.specs.Standing.{AreHanded, AreKeptAs, AreSliding, Stands}
+use Rattle.hy_checked.specs.Standing.{AreCallers, AreHanded, AreSleepers, AreSliding, IsRunningAs, Stands}
 use Rattle.hy_checked.proofs.Known.{same_fun, sees_fun}
 
 -- all activations but the running one are kept as they were, and no turn is taken
 pub record SameOthers (m new : Machine) : Type 0 where
   pub number : new.number ≡ m.number
   pub left : new.left ≡ m.left
-  pub callers : new.callers ≡ m.callers
+  pub acts : new.acts ≡ m.acts
+  pub running : new.running ≡ m.running
   pub sleepers : new.sleepers ≡ m.sleepers
 
 -- only the place of one that hands out counts nothing
@@ -46,14 +44,21 @@ stands_next object m new g s t st sees f same place = record {
   left = f.left ∙ st.left ∙ sym same.left;
   turns = omega (arith, f.left, f.turns, st.turns);
   going = f.stop ∙ st.going;
-  callers = subst (λ (cs : List Activation). AreKeptAs object new.callers.items cs) (sym f.callers) (ap_kept (ap (λ (v : _). v.items) same.callers) s.callers st.callers);
-  suspended = subst (λ (cs : List Activation). AreKeptAs object new.sleepers.items cs) (sym f.suspended) (ap_kept (ap (λ (v : _). v.items) same.sleepers) s.suspended st.suspended);
+  caller = st.caller;
+  running = subst (λ (live : List acts.Activation). IsRunningAs live new.running st.caller t.now) (sym same.acts) (subst (λ (act : ActId). IsRunningAs m.acts act st.caller t.now) (sym same.running) (subst (IsRunningAs m.acts m.running st.caller) (sym f.now) goes_behind));
+  callers = subst (AreCallers object new.acts st.caller) (sym f.callers) (subst (λ (live : List acts.Activation). AreCallers object live st.caller s.callers) (sym same.acts) st.callers);
+  suspended = subst (AreSleepers object new.acts new.sleepers.items) (sym f.suspended) (subst (λ (rows : List ActId). AreSleepers object new.acts rows s.suspended) (sym (ap (λ (v : _). v.items) same.sleepers)) (subst (λ (live : List acts.Activation). AreSleepers object live m.sleepers.items s.suspended) (sym same.acts) st.suspended));
+  all =
+      let live : length new.acts ≡ length m.acts = ap (λ (xs : List acts.Activation). length xs) same.acts in
+      let waiting : length t.callers ≡ length s.callers = ap (λ (xs : List Activation). length xs) f.callers in
+      let sleeping : length t.suspended ≡ length s.suspended = ap (λ (xs : List Activation). length xs) f.suspended in
+      omega (arith, live, waiting, sleeping, st.all);
   handed = subst (λ (a : Activation). AreHanded a t.callers) (sym f.now) (subst (AreHanded (behind s.now)) (sym f.callers) (handed_behind s.now (suc s.now.place) s.callers st.handed));
   sliding = subst AreSliding (sym f.suspended) st.sliding;
 }
   where
-    ap_kept : {xs ys : List Waiting} → xs ≡ ys → (cs : List Activation) → AreKeptAs object ys cs → AreKeptAs object xs cs
-    ap_kept e cs h = subst (λ (zs : List Waiting). AreKeptAs object zs cs) (sym e) h
+    goes_behind : IsRunningAs m.acts m.running st.caller (behind s.now)
+    goes_behind = let r = st.running in record { one = r.one; is = r.is; standing_is = r.standing_is; number = r.number; frame = r.frame }
 
 pub goes_on : (object : Object) (m new : Machine) (fun : Fun) (step : State → State) → nth object.funs m.number ≡ Some fun → Goes fun m.store new.store step → SameOthers m new → new.place ≡ m.place + 1 → GoesOn object m new step
 goes_on object m new fun step is goes same place = record {

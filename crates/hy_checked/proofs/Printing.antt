@@ -38,8 +38,11 @@ stands_outside object m s input cut output st = record {
   left = st.left;
   turns = st.turns;
   going = st.going;
+  caller = st.caller;
+  running = st.running;
   callers = st.callers;
   suspended = st.suspended;
+  all = st.all;
   handed = st.handed;
   sliding = st.sliding;
 }

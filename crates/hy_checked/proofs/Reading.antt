@@ -158,7 +158,7 @@ module _ (object : Object) (m : Machine) (fun : Fun) (to span : ℕ) (reach : Re
         let goes : GoesOn object m (record m { store = store; place = m.place + 1 }) (λ (s : State). puts (next s) (told_range reach.range) (only (machine.Word z))) =
         goes_on object m (record m { store = store; place = m.place + 1 }) fun (λ (s : State). puts (next s) (told_range reach.range) (only (machine.Word z))) at.fun_is
         (writes_word m.store store fun reach.range z (λ (s : State). puts (next s) (told_range reach.range) (only (machine.Word z))) (λ g s. seen g s reach) stores reached.cells reached.len (λ g s sees. (refl, refl)))
-        (record { number = refl; left = refl; callers = refl; sleepers = refl }) refl in
+        (record { number = refl; left = refl; acts = refl; running = refl; sleepers = refl }) refl in
         record {
           state = t;
           comes = comes_behind t (as_read (Gives z []) got) refl refl refl;

@@ -1,12 +1,12 @@
 -- Jumps, and the turns that they take.
-use Rattle.std.proofs.Common.{◌≡◌, ◌≢◌, ◌<◌, ◌≤◌, ◌+◌, ◌-◌, ◌^◌, ℕ, zero, suc, Bool, true, false, nat_lt, not, cond, ℤ, List, [], ◌∷◌, Option, Some, None, Result, Ok, Err, refl, sym, ap, subst, ◌∙◌, arith}
+use Rattle.std.proofs.Common.{◌≡◌, ◌≢◌, ◌<◌, ◌≤◌, ◌+◌, ◌-◌, ℕ, suc, Bool, true, false, nat_lt, cond, Err, refl, sym, ap, subst, ◌∙◌, arith}
 use Rattle.std.proofs.lemmas.Bool.Decides.{nat_tests}
 use Rattle.hy_base.specs.declared.run.Counts.{Counts}
 use Rattle.hy_base.specs.declared.run.End.TheVariants as end
 use Rattle.hy_object.specs.declared.object.Fun.{Fun}
 use Rattle.hy_object.specs.declared.object.Object.{Object}
-use Rattle.hy_object.specs.Checks.{ends, goes_to, next, take_turn, turn_of, with_turn}
-use Rattle.hy_object.specs.Controls.{jump, jump_where}
+use Rattle.hy_object.specs.Checks.{goes_to, next, take_turn, turn_of, with_turn}
+use Rattle.hy_object.specs.Controls.{jump}
 use Rattle.hy_object.specs.States.{State}
 use Rattle.hy_store.specs.declared.halt.Halt.TheVariants as halt
 use Rattle.hy_store.specs.declared.store.Store.{Store}
@@ -47,8 +47,11 @@ stands_at object m s place st = record {
   left = st.left;
   turns = st.turns;
   going = st.going;
+  caller = st.caller;
+  running = (let r = st.running in record { one = r.one; is = r.is; standing_is = r.standing_is; number = r.number; frame = r.frame });
   callers = st.callers;
   suspended = st.suspended;
+  all = st.all;
   handed = handed_behind s.now place s.callers st.handed;
   sliding = st.sliding;
 }
@@ -63,8 +66,11 @@ stands_turned object m s left e st = record {
   left = omega (arith, e, st.left);
   turns = omega (arith, e, st.turns);
   going = st.going;
+  caller = st.caller;
+  running = st.running;
   callers = st.callers;
   suspended = st.suspended;
+  all = st.all;
   handed = st.handed;
   sliding = st.sliding;
 }

@@ -1,5 +1,5 @@
 -- What an instruction does to the machine, by its answer.
-use Rattle.std.specs.Prelude.{◌≡◌, ◌≢◌, ℕ, List, Option, Result, Ok, Err}
+use Rattle.std.specs.Prelude.{◌≡◌, ◌≢◌, Result, Ok, Err}
 use Rattle.hy_base.specs.declared.run.Counts.{Counts}
 use Rattle.hy_base.specs.declared.run.End.{End}
 use Rattle.hy_base.specs.declared.run.End.TheVariants as end

@@ -2,7 +2,6 @@
 use Rattle.std.specs.Prelude.{Result, Ok, Err}
 use Rattle.hy_base.specs.declared.run.Counts.{Counts}
 use Rattle.hy_base.specs.declared.run.RunFault.{RunFault}
-use Rattle.hy_object.specs.declared.stuck.Pc.{Pc}
 use Rattle.hy_object.specs.States.{Stop}
 use Rattle.hy_object.specs.States as machine
 use Rattle.hy_runs.specs.Runs.{CountsCause, CountsNone, Faults}

@@ -1,6 +1,10 @@
 -- How the machine that runs stands for a state of the machine of the definitions.
-use Rattle.std.specs.Prelude.{◌≡◌, ◌<◌, ◌≤◌, ◌+◌, ◌^◌, ℕ, List, [], ◌∷◌, ◌++◌, Option, None, Some}
+use Rattle.std.specs.Prelude.{◌≡◌, ◌<◌, ◌≤◌, ◌+◌, ◌^◌, ℕ, suc, List, [], ◌∷◌, ◌++◌, length, Option, None, Some, IsSomeAnd}
 use Rattle.std.specs.List.{AllByRecursion}
+use Rattle.hy_frames.specs.declared.id.ActId.{ActId}
+use Rattle.hy_frames.specs.declared.id.Standing.{Standing}
+use Rattle.hy_frames.specs.declared.id.Standing.TheVariants.{Running, Suspended}
+use Rattle.hy_frames.specs.Activations as acts
 use Rattle.hy_object.specs.declared.instr.Instr.{Instr}
 use Rattle.hy_object.specs.declared.object.Fun.{Fun}
 use Rattle.hy_object.specs.declared.object.Object.{Object}
@@ -10,17 +14,49 @@ use Rattle.hy_store.specs.Sees.{Ghosts, Sees}
 use Rattle.hy_checked.specs.declared.machine.Machine.{Machine}
 use Rattle.hy_checked.specs.declared.machine.Waiting.{Waiting}
 
--- an activation that waits or is suspended, and what is kept of it
+-- where a live activation goes on
+abbrev pub waits_as : acts.Activation → Waiting
+waits_as one = record { number = one.function; place = one.code_place; frame = one.frame }
+
+-- the live activation of this id goes on there
+abbrev pub WaitsAs : Machine → ActId → Waiting → Type 0
+WaitsAs m act w = IsSomeAnd (acts.activation act m.acts) (λ one. w ≡ waits_as one)
+
+-- the running activation has that caller, or none
+abbrev pub HasCaller : Machine → Option ActId → Type 0
+HasCaller m caller = IsSomeAnd (acts.activation m.running m.acts) (λ one. caller ≡ acts.caller_of one.standing)
+
+-- an activation that waits or is suspended, and where it goes on
 pub record IsKeptAs (object : Object) (w : Waiting) (a : Activation) : Type 0 where
   pub number : a.number ≡ w.number
   pub place : a.place ≡ w.place
   pub frame : a.frame ≡ w.frame
   pub fun : nth object.funs a.number ≡ Some a.fun
 
--- the last one kept and those below it are the activations, the first one first
-abbrev pub AreKeptAs : Object → List Waiting → List Activation → Type 0
-AreKeptAs object kept [] = kept ≡ []
-AreKeptAs object kept (a ∷ rest) = (w : Waiting) × (below : List Waiting) × ((kept ≡ below ++ w ∷ []) × (IsKeptAs object w a × AreKeptAs object below rest))
+-- The live activation of this id stands so, and is this one, which does not run.
+pub record IsPausedAs (object : Object) (live : List acts.Activation) (act : ActId) (standing : Standing) (a : Activation) : Type 0 where
+  pub one : acts.Activation
+  pub is : acts.activation act live ≡ Some one
+  pub standing_is : one.standing ≡ standing
+  pub kept : IsKeptAs object (waits_as one) a
+
+-- The live activation of this id runs with that caller, and is this one. Its place is not kept while it runs.
+pub record IsRunningAs (live : List acts.Activation) (act : ActId) (caller : Option ActId) (a : Activation) : Type 0 where
+  pub one : acts.Activation
+  pub is : acts.activation act live ≡ Some one
+  pub standing_is : one.standing ≡ Running caller
+  pub number : a.number ≡ one.function
+  pub frame : a.frame ≡ one.frame
+
+-- The activation of this id and the callers behind it are the activations, the innermost first.
+abbrev pub AreCallers : Object → List acts.Activation → Option ActId → List Activation → Type 0
+AreCallers object live caller [] = caller ≡ None
+AreCallers object live caller (a ∷ rest) = (act : ActId) × (next : Option ActId) × ((caller ≡ Some act) × (IsPausedAs object live act (Running next) a × AreCallers object live next rest))
+
+-- the last of these ids and those below it are of the activations, the first one first
+abbrev pub AreSleepers : Object → List acts.Activation → List ActId → List Activation → Type 0
+AreSleepers object live sleepers [] = sleepers ≡ []
+AreSleepers object live sleepers (a ∷ rest) = (act : ActId) × (below : List ActId) × ((sleepers ≡ below ++ act ∷ []) × (IsPausedAs object live act Suspended a × AreSleepers object live below rest))
 
 -- a subscript hands out to a slot that its caller has
 abbrev pub HandsTo : Activation → Activation → Type 0
@@ -44,8 +80,12 @@ pub record Stands (object : Object) (m : Machine) (s : State) : Type 0 where
   pub left : s.left ≡ m.left
   pub turns : s.counts.turns + s.left ≤ 2 ^ 32
   pub going : s.stop ≡ None
-  pub callers : AreKeptAs object m.callers.items s.callers
-  pub suspended : AreKeptAs object m.sleepers.items s.suspended
+  pub caller : Option ActId
+  pub running : IsRunningAs m.acts m.running caller s.now
+  pub callers : AreCallers object m.acts caller s.callers
+  pub suspended : AreSleepers object m.acts m.sleepers.items s.suspended
+  -- no other activation is live
+  pub all : length m.acts ≡ suc (length s.callers + length s.suspended)
   pub handed : AreHanded s.now s.callers
   pub sliding : AreSliding s.suspended
 

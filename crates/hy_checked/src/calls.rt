@@ -1,16 +1,18 @@
 // Calls, projections and returns.
-ghost use Rattle.std.specs.Prelude.{◌≡◌, ◌∷◌, ◌++◌, ◌+◌, ◌<◌, ◌^◌, [], OnOk, IsSome, Some, slice_get};
+ghost use Rattle.std.specs.Prelude.{◌≡◌, None, IsSome, Some, slice_get};
+ghost use Rattle.hy_frames.specs.Activations.{IsLive};
 ghost use Rattle.hy_object.specs.declared.instr.Instr.TheVariants as instr;
 ghost use Rattle.hy_object.specs.Checks.{take_turn};
 ghost use Rattle.hy_object.specs.Controls.{call, leave, project, start};
 ghost use Rattle.hy_store.specs.Opened.{told_range};
 ghost use Rattle.hy_store.specs.Sees.{told_role};
 ghost use Rattle.hy_checked.specs.Answers.{Answers};
-ghost use Rattle.hy_checked.specs.Standing.{IsAt};
+ghost use Rattle.hy_checked.specs.Standing.{HasCaller, IsAt, WaitsAs};
 ghost use Rattle.hy_checked.specs.Starting.{CanStart};
 
 use crate::machine::{Machine, Waiting};
-use hy_base::{End, NoMemory, RunCause};
+use hy_base::{End, RunCause};
+use hy_frames::ActId;
 use hy_object::{Fun, Kind, Object};
 use hy_store::{Halt, Reach, Role, is_empty};
 use std::alloc::Global;
@@ -25,14 +27,6 @@ pub struct Start {
     pub role: Role,
 }
 
-/// Keeps one more activation; the only refusal is want of memory.
-pub fn keep(kept: &mut Vec<Waiting>, one: Waiting) -> Result<(), NoMemory>
-    ensures { OnOk result (kept.new.items ≡ kept.old.items ++ one ∷ []) }
-{
-    kept.push(one)?;
-    Ok(())
-}
-
 /// A function that is known to be there.
 pub fn known_fun(object: &Object, number: u32) -> &Fun
     requires { IsSome (slice_get object.now.funs number) }
@@ -45,15 +39,15 @@ pub fn known_fun(object: &Object, number: u32) -> &Fun
 }
 
 impl Machine {
-    /// The running activation, as it is kept while another one runs. It goes on behind the instruction.
-    pub fn waiting(&self) -> Waiting
-        requires { self.now.place + 1 < 2 ^ 32 }
-        ensures { result ≡ record { number = self.now.number; place = self.now.place + 1; frame = self.now.store.frame } }
+    /// Where an activation goes on that does not run.
+    pub fn waiting(&self, act: ActId) -> Waiting
+        requires { IsLive act self.now.acts }
+        ensures { WaitsAs self.now act result }
     {
         Waiting {
-            number: self.number,
-            place: self.place + 1,
-            frame: self.store.frame,
+            number: self.acts.function(act),
+            place: self.acts.code_place(act),
+            frame: self.acts.frame(act),
         }
     }
 
@@ -128,8 +122,10 @@ impl Machine {
         if self.left == 0 {
             return Err(Halt::Ended(End::Spent));
         }
-        let caller = self.waiting();
-        keep(&mut self.callers, caller)?;
+        self.acts.go(self.running, self.place + 1);
+        let act = self
+            .acts
+            .start(what.number, self.store.counts.blocks, Some(self.running))?;
         let counts = self.store.counts;
         if let Err(_) = self
             .store
@@ -138,6 +134,7 @@ impl Machine {
             self.store.counts = counts;
             return Err(Halt::Cut(RunCause::NoMemory));
         }
+        self.running = act;
         self.number = what.number;
         self.place = 0;
         self.left -= 1;
@@ -155,18 +152,19 @@ impl Machine {
         requires { IsAt object.now self.old fun.now (instr.Return word) }
         ensures { Answers object.now self.old self.new result (λ s. leave s word) }
     {
-        if self.callers.is_empty() {
+        let Some(caller) = self.acts.caller(self.running) else {
             return self.leave_main(alloc, object, fun, word);
-        }
-        let Some(caller) = self.callers.pop() else {
-            unreachable!()
         };
-        let next = known_fun(object, caller.number);
+        let waits = self.waiting(caller);
+        let next = known_fun(object, waits.number);
         let counts = self.store.counts;
-        match self.store.leave(alloc, fun, word, next, Some(caller.frame)) {
+        match self.store.leave(alloc, fun, word, next, Some(waits.frame)) {
             Ok(()) => {
-                self.number = caller.number;
-                self.place = caller.place;
+                self.acts.have_own_ids();
+                self.acts.end(self.running);
+                self.running = caller;
+                self.number = waits.number;
+                self.place = waits.place;
                 Ok(())
             }
             Err(Halt::Ended(end)) => Err(Halt::Ended(end)),
@@ -186,7 +184,7 @@ impl Machine {
         word: u32,
     ) -> Result<(), Halt>
         requires here { IsAt object.now self.old fun.now (instr.Return word) }
-        requires none { self.old.callers.items ≡ [] }
+        requires none { HasCaller self.old None }
         ensures { Answers object.now self.old self.new result (λ s. leave s word) }
     {
         let _object = object;

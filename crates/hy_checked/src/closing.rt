@@ -24,8 +24,9 @@ impl Machine {
         let mut at = 0;
         while at < self.sleepers.len() {
             let sleeper = self.sleepers[at];
-            let its = known_fun(object, sleeper.number);
-            if self.store.was_lent(fun, sleeper.frame, its.accesses, name) {
+            let sleeps = self.waiting(sleeper);
+            let its = known_fun(object, sleeps.number);
+            if self.store.was_lent(fun, sleeps.frame, its.accesses, name) {
                 return true;
             }
             at += 1;

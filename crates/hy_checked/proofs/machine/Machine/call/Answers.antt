@@ -3,9 +3,8 @@ use Rattle.hy_object.specs.declared.instr.Instr.TheVariants as instr
 use Rattle.hy_object.specs.Checks.{take_turn}
 use Rattle.hy_object.specs.Controls.{call, start}
 use Rattle.hy_object.specs.States.{Called}
-use Rattle.hy_store.specs.Opened.{told_range}
 use Rattle.hy_store.proofs.Rows.{nth_get}
-use Rattle.hy_checked.proofs.Calling.{call_is, callee_there, calls_slot, slots_fit}
+use Rattle.hy_checked.proofs.Calling.{call_is, slots_fit}
 use Rattle.hy_checked.proofs.Known.{sees_fun}
 use Rattle.hy_checked.proofs.Lifting.{answers_as, told_stuck}
 use Rattle.hy_checked.proofs.machine.Machine.call.Goals as goal

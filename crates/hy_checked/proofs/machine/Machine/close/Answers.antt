@@ -24,4 +24,4 @@ overflow_add-self c =
 
 pub returns : goal.returns
 returns c = answers_as c.args.object.now c.args.self.now (record c.args.self.now { store = c.close.new.self; place = c.args.self.now.place + 1 }) (Ok tt) (λ s. close_unless s c.args.slot c.is_lent-lent.result) (λ s. close s c.args.slot) (λ s st. close_is s c.args.slot c.is_lent-lent.result (c.is_lent-lent.ensures s st))
-    (goes_on c.args.object.now c.args.self.now (record c.args.self.now { store = c.close.new.self; place = c.args.self.now.place + 1 }) c.args.fun.now (λ s. close_unless s c.args.slot c.is_lent-lent.result) c.requires.fun_is c.in_default.ensures (record { number = refl; left = refl; callers = refl; sleepers = refl }) refl)
+    (goes_on c.args.object.now c.args.self.now (record c.args.self.now { store = c.close.new.self; place = c.args.self.now.place + 1 }) c.args.fun.now (λ s. close_unless s c.args.slot c.is_lent-lent.result) c.requires.fun_is c.in_default.ensures (record { number = refl; left = refl; acts = refl; running = refl; sleepers = refl }) refl)

@@ -11,4 +11,4 @@ unreachable-requires c = none_takes c.args.object.now c.args.self.now c.args.fun
 
 pub returns : goal.returns
 returns c = yield_halts c.args.object.now c.args.self.now _ c.args.fun.now c.args.fun.now c.hand_out.new.self c.args.slot c.in-Err.halt (Waits None c.args.fun.now) c.requires.here.fun_is c.in-Err.ensures
-    (λ s st. none_waits c.args.object.now c.args.self.now.callers.items s.callers st.callers c.requires.none) (record { number = refl; place = refl; counts = refl })
+    (λ s st. none_waits c.args.object.now c.args.self.now s st c.requires.none) (record { number = refl; place = refl; counts = refl })

@@ -1,4 +1,4 @@
-use Rattle.std.proofs.Common.{◌≡◌, ◌≢◌, ◌≤◌, arith}
+use Rattle.std.proofs.Common.{◌≢◌, ◌≤◌, arith}
 use Rattle.hy_checked.proofs.Turning.{jump_goes_back, jump_goes_on}
 use Rattle.hy_checked.proofs.machine.Machine.jump.Goals as goal
 

@@ -1,6 +1,6 @@
 use Rattle.std.proofs.Common.{◌∙◌, ap, not, sym, rules, SFits, w64}
 use Rattle.std.proofs.lemmas.Int.{to_z-of_z}
-use Rattle.hy_object.specs.Controls.{jump, jump_if, jump_where}
+use Rattle.hy_object.specs.Controls.{jump_if, jump_where}
 use Rattle.hy_object.specs.Words.{is_zero}
 use Rattle.hy_checked.proofs.Known.{sees_fun}
 use Rattle.hy_checked.proofs.Turning.{next_goes_on}

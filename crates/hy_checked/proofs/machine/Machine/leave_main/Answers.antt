@@ -13,4 +13,4 @@ unreachable-requires c = none_goes_back c.args.object.now c.args.self.now c.args
 pub returns-in-Err-Ended : goal.returns-in-Err-Ended
 returns-in-Err-Ended c = passes_halts c.args.object.now c.args.self.now (record c.args.self.now { store = c.leave.new.self }) c.args.fun.now c.args.fun.now c.leave.new.self (halt.Ended c.in-Err-Ended.end) (Waits None c.args.fun.now) Returned (λ s. leave s c.args.word) c.requires.here.fun_is
     (subst (λ (h : Halt). Passes c.args.fun.now c.args.fun.now c.args.self.now.store c.leave.new.self (Err h) (Waits None c.args.fun.now) Returned (λ s. leave s c.args.word)) c.in-Err-Ended.field-0-is c.in-Err-Ended.ensures)
-    (λ s st. none_waits c.args.object.now c.args.self.now.callers.items s.callers st.callers c.requires.none) (λ e h. refl) (λ no. absurd (no c.in-Err-Ended.end refl))
+    (λ s st. none_waits c.args.object.now c.args.self.now s st c.requires.none) (λ e h. refl) (λ no. absurd (no c.in-Err-Ended.end refl))

@@ -13,4 +13,4 @@ overflow_add-self c =
     omega (arith, fits)
 
 pub returns : goal.returns
-returns c = goes_on c.args.object.now c.args.self.now _ c.args.fun.now (λ s. does c.args.object.now s c.args.instr) c.requires.fun_is c.in_default.ensures (record { number = refl; left = refl; callers = refl; sleepers = refl }) refl
+returns c = goes_on c.args.object.now c.args.self.now _ c.args.fun.now (λ s. does c.args.object.now s c.args.instr) c.requires.fun_is c.in_default.ensures (record { number = refl; left = refl; acts = refl; running = refl; sleepers = refl }) refl
