@@ -4,6 +4,7 @@ pub mod Pausing
 pub mod Lent
 pub mod Lifting
 pub mod Turning
+pub mod Settling
 pub mod Coming
 pub mod Whole
 pub mod Calling

@@ -7,6 +7,7 @@ pub mod Following
 pub mod Reaching
 pub mod Wholes
 pub mod Storing
+pub mod Settling
 pub mod Naming
 pub mod Opening
 pub mod Started

@@ -1,5 +1,5 @@
 -- Blocks by their names.
-use Rattle.std.specs.Prelude.{◌≡◌, ◌≤◌, ◌+◌, ℕ, nat_eq, cond, List, length, Option, Some, IsSomeAnd}
+use Rattle.std.specs.Prelude.{◌≡◌, ◌≤◌, ◌+◌, ℕ, nat_eq, cond, Bool, false, List, length, Option, None, Some, IsSomeAnd}
 use Rattle.std.specs.HashMap.{get}
 use Rattle.std.specs.Option.{option_map}
 use Rattle.hy_access.specs.declared.access.Range.{Range}
@@ -10,8 +10,13 @@ use Rattle.hy_store.specs.Cells.{Cell, window}
 abbrev pub Live : Type 0
 Live = ℕ → Option (List Cell)
 
+-- whether the cells of the block of that name are at hand
+abbrev pub is_at_hand : Option ℕ → ℕ → Bool
+is_at_hand None name = false
+is_at_hand (Some one) name = nat_eq one name
+
 abbrev pub live : Blocks → Live
-live blocks name = option_map (λ cells. cells.items) (get nat_eq blocks.live name)
+live blocks name = cond (is_at_hand blocks.at_hand name) (Some blocks.cells.items) (option_map (λ cells. cells.items) (get nat_eq blocks.live name))
 
 -- what is live at that name is changed, all else equal
 abbrev pub with_block : Live → ℕ → Option (List Cell) → Live

@@ -66,6 +66,14 @@ impl Store {
         self.reach_through(fun, name, place.offset, words)
     }
 
+    /// Brings the frame of the running activation to hand, so that its words are found with no look at the table of blocks.
+    /// What is seen stays.
+    pub fn settle(&mut self)
+        ensures { (g : Ghosts) (fun : Fun) (s : State) → Sees g self.old fun s → Sees g self.new fun s }
+    {
+        self.blocks.bring(self.frame);
+    }
+
     /// The cells that are reached.
     pub fn cells(&self, reach: Reach) -> &[Cell]
         requires { HasCells (live self.now.blocks reach.range.block) reach.range.from reach.range.len }

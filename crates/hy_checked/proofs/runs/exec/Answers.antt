@@ -1,6 +1,7 @@
-use Rattle.std.proofs.Common.{◌≡◌, ◌-◌, suc, refl, arith}
+use Rattle.std.proofs.Common.{◌≡◌, ◌∙◌, ◌-◌, suc, refl, arith}
 use Rattle.hy_runs.specs.Runs.{told}
 use Rattle.hy_checked.proofs.Whole.{keeps_promise, out_of_steps, spent_at_once, walks_first}
+use Rattle.hy_checked.proofs.Settling.{still_walks}
 use Rattle.hy_checked.proofs.runs.exec.Goals as goal
 
 pub returns-then-n-eq0-clause-ended : goal.returns-then-n-eq0-clause-ended
@@ -12,13 +13,23 @@ loop-init g c =
     (walks_first c.args.object.now c.args.n (c.args.n - 1) _ c.in-Ok.lines.ended c.in-Ok.machine e (c.in-Ok.ensures.0 (c.args.n - 1) e) c.in-Ok.ensures.1, refl, refl)
 
 pub returns-in-Err-clause-ended : goal.returns-in-Err-clause-ended
-returns-in-Err-clause-ended g c = (keeps_promise c.cut_runs_agree.ensures c.args.object.now c.args.n (told (g.I.Source.tells c.args.input.now) (g.K.Sink.tells c.args.out.now)) (told (g.I.Source.tells c.step.new.input) (g.K.Sink.tells c.step.new.out)) c.step.new.lines.ended c.loop.machine c.step.new.self c.in-Err.halt c.ending_of.result c.ending_of.ensures (c.in-Err.ensures.leads.does c.args.n (told (g.I.Source.tells c.args.input.now) (g.K.Sink.tells c.args.out.now)) c.loop.invariant.0)).0
+returns-in-Err-clause-ended g c = (keeps_promise c.cut_runs_agree.ensures c.args.object.now c.args.n (told (g.I.Source.tells c.args.input.now) (g.K.Sink.tells c.args.out.now)) (told (g.I.Source.tells c.step.new.input) (g.K.Sink.tells c.step.new.out)) c.step.new.lines.ended c.settle.new.self c.step.new.self c.in-Err.halt c.ending_of.result c.ending_of.ensures (c.in-Err.ensures.leads.does c.args.n (told (g.I.Source.tells c.args.input.now) (g.K.Sink.tells c.args.out.now)) (still_walks c.args.object.now c.args.n (told (g.I.Source.tells c.args.input.now) (g.K.Sink.tells c.args.out.now)) (told (g.I.Source.tells c.loop.input) (g.K.Sink.tells c.loop.out)) c.loop.lines.ended c.loop.machine c.settle.new.self c.settle.ensures c.loop.invariant.0))).0
 
 pub returns-in-Err-clause-cut_off : goal.returns-in-Err-clause-cut_off
-returns-in-Err-clause-cut_off g c = (keeps_promise c.cut_runs_agree.ensures c.args.object.now c.args.n (told (g.I.Source.tells c.args.input.now) (g.K.Sink.tells c.args.out.now)) (told (g.I.Source.tells c.step.new.input) (g.K.Sink.tells c.step.new.out)) c.step.new.lines.ended c.loop.machine c.step.new.self c.in-Err.halt c.ending_of.result c.ending_of.ensures (c.in-Err.ensures.leads.does c.args.n (told (g.I.Source.tells c.args.input.now) (g.K.Sink.tells c.args.out.now)) c.loop.invariant.0)).1
+returns-in-Err-clause-cut_off g c = (keeps_promise c.cut_runs_agree.ensures c.args.object.now c.args.n (told (g.I.Source.tells c.args.input.now) (g.K.Sink.tells c.args.out.now)) (told (g.I.Source.tells c.step.new.input) (g.K.Sink.tells c.step.new.out)) c.step.new.lines.ended c.settle.new.self c.step.new.self c.in-Err.halt c.ending_of.result c.ending_of.ensures (c.in-Err.ensures.leads.does c.args.n (told (g.I.Source.tells c.args.input.now) (g.K.Sink.tells c.args.out.now)) (still_walks c.args.object.now c.args.n (told (g.I.Source.tells c.args.input.now) (g.K.Sink.tells c.args.out.now)) (told (g.I.Source.tells c.loop.input) (g.K.Sink.tells c.loop.out)) c.loop.lines.ended c.loop.machine c.settle.new.self c.settle.ensures c.loop.invariant.0))).1
 
 pub returns-in-Err-clause-no_asks : goal.returns-in-Err-clause-no_asks
-returns-in-Err-clause-no_asks g c = (keeps_promise c.cut_runs_agree.ensures c.args.object.now c.args.n (told (g.I.Source.tells c.args.input.now) (g.K.Sink.tells c.args.out.now)) (told (g.I.Source.tells c.step.new.input) (g.K.Sink.tells c.step.new.out)) c.step.new.lines.ended c.loop.machine c.step.new.self c.in-Err.halt c.ending_of.result c.ending_of.ensures (c.in-Err.ensures.leads.does c.args.n (told (g.I.Source.tells c.args.input.now) (g.K.Sink.tells c.args.out.now)) c.loop.invariant.0)).2
+returns-in-Err-clause-no_asks g c = (keeps_promise c.cut_runs_agree.ensures c.args.object.now c.args.n (told (g.I.Source.tells c.args.input.now) (g.K.Sink.tells c.args.out.now)) (told (g.I.Source.tells c.step.new.input) (g.K.Sink.tells c.step.new.out)) c.step.new.lines.ended c.settle.new.self c.step.new.self c.in-Err.halt c.ending_of.result c.ending_of.ensures (c.in-Err.ensures.leads.does c.args.n (told (g.I.Source.tells c.args.input.now) (g.K.Sink.tells c.args.out.now)) (still_walks c.args.object.now c.args.n (told (g.I.Source.tells c.args.input.now) (g.K.Sink.tells c.args.out.now)) (told (g.I.Source.tells c.loop.input) (g.K.Sink.tells c.loop.out)) c.loop.lines.ended c.loop.machine c.settle.new.self c.settle.ensures c.loop.invariant.0))).2
 
 pub returns-clause-cut_off : goal.returns-clause-cut_off
 returns-clause-cut_off g c = out_of_steps c.cut_runs_agree.ensures c.args.object.now c.args.n (told (g.I.Source.tells c.args.input.now) (g.K.Sink.tells c.args.out.now)) (told (g.I.Source.tells c.loop.input) (g.K.Sink.tells c.loop.out)) c.loop.lines.ended c.loop.machine c.loop.invariant.0
+
+pub step-requires-clause-stands : goal.step-requires-clause-stands
+step-requires-clause-stands g c = let w = c.loop.invariant.0 in (w.state, c.settle.ensures c.args.object.now w.state w.stands)
+
+pub loop-preserved : goal.loop-preserved
+loop-preserved g c = (
+  c.in_default-step.ensures.leads.does c.args.n (told (g.I.Source.tells c.args.input.now) (g.K.Sink.tells c.args.out.now)) (still_walks c.args.object.now c.args.n (told (g.I.Source.tells c.args.input.now) (g.K.Sink.tells c.args.out.now)) (told (g.I.Source.tells c.loop.input) (g.K.Sink.tells c.loop.out)) c.loop.lines.ended c.loop.machine c.settle.new.self c.settle.ensures c.loop.invariant.0),
+  c.in_default-step.ensures.faults.0 ∙ c.loop.invariant.1,
+  c.in_default-step.ensures.faults.1 ∙ c.loop.invariant.2,
+)
