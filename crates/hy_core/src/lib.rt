@@ -21,4 +21,4 @@ pub use program::{Checked, Core, CoreFun, CoreOp, CorePlace, CoreStep, CoreStmt}
 pub use told::{
     ready_cores_agree, ready_cores_are_calm, shaped_is_never_stuck, told_cores_drop_all,
 };
-pub use value::Value;
+pub use value::{Value, copy, is_whole};

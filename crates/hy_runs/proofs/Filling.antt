@@ -8,7 +8,7 @@ use Rattle.hy_runs.specs.Runs.{AllTaken}
 use Rattle.hy_runs.specs.Taking.{Fills, Filling}
 use Rattle.hy_runs.proofs.Splitting.{all_in_line, splits_line, splits_last, splits_long}
 use Rattle.hy_runs.proofs.Tellings.{took_none, took_more, took_all, at_end, took_so_far}
-use Rattle.hy_runs.proofs.Numerals.{differs}
+use Rattle.hy_lines.proofs.Numerals.{differs}
 
 pub nothing_taken : (old : Option Tape) (bytes : List ℕ) → bytes ≡ [] → Filling old old bytes 0
 nothing_taken old bytes e = rw e (record { size = refl; in_line = tt; told = took_none old })

@@ -1,4 +1,3 @@
 pub mod Lines
-pub mod Numerals
 pub mod Runs
 pub mod Taking

@@ -2,7 +2,6 @@
 #![tactic(auto)]
 
 mod line;
-mod number;
 mod printing;
 mod reading;
 

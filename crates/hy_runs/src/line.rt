@@ -4,8 +4,8 @@ ghost use Rattle.hy_base.specs.Lines.{number_of, trimmed};
 ghost use Rattle.hy_base.specs.Outside.{faults_after};
 ghost use Rattle.hy_runs.specs.Taking.{Fills};
 
-use crate::number::{number_of, trimmed};
 use hy_base::{Failed, NoMemory, Source};
+use hy_lines::{number_of, trimmed};
 use std::alloc::Global;
 use std::marker::Model;
 

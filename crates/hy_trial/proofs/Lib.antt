@@ -1,0 +1,14 @@
+mod Leading
+mod Lists
+mod Decisions
+mod Comings
+mod Stacks
+mod Shown
+mod Naps
+mod Activations
+mod Unwinding
+mod Asked
+mod Continued
+mod Ends
+mod Deinits
+mod Dropping

@@ -1,0 +1,27 @@
+use Rattle.std.proofs.Common.{◌≡◌, rules, w64, SFits, to_z, of_z, sym, ap, ◌∙◌}
+use Rattle.std.proofs.lemmas.Int.{to_z-of_z}
+use Rattle.std.specs.Option.{option_map}
+use Rattle.hy_core.specs.Denotes.{place_of}
+use Rattle.hy_core.specs.Statements as statements
+use Rattle.hy_core.specs.Values as V
+use Rattle.hy_trial.specs.Asked.{compared}
+use Rattle.hy_trial.specs.Leads.{after}
+use Rattle.hy_trial.specs.Views.{setting_of, state_of}
+use Rattle.hy_trial.proofs.Continued.{compares}
+use Rattle.hy_trial.proofs.Leading.{earlier, handed}
+use Rattle.hy_trial.proofs.machine.Machine.compare.Goals as goal
+
+pub returns-in_err-two : goal.returns-in_err-two
+returns-in_err-two c = handed _ c.from_residual.ensures.1 (c.in_err-two.ensures (compares (setting_of c.args.setting.now) (option_map place_of c.args.to.now) (compared c.args.comparison)))
+
+pub returns-in_err-x : goal.returns-in_err-x
+returns-in_err-x c = handed _ c.from_residual-in_err-x.ensures.1 (earlier (c.in_ok-two.ensures (compares (setting_of c.args.setting.now) (option_map place_of c.args.to.now) (compared c.args.comparison))).ok (c.in_err-x.ensures _))
+
+pub returns-in_err-y : goal.returns-in_err-y
+returns-in_err-y c = handed _ c.from_residual-in_err-y.ensures.1 (earlier ((c.in_ok-two.ensures (compares (setting_of c.args.setting.now) (option_map place_of c.args.to.now) (compared c.args.comparison))).ok ∙ (c.in_ok-x.ensures _).ok) (c.in_err-y.ensures _))
+
+pub returns : goal.returns
+returns c =
+    let x : to_z w64 (of_z w64 c.in_ok-x.x) ≡ c.in_ok-x.x = let f : SFits w64 c.in_ok-x.x = search rules in to_z-of_z w64 c.in_ok-x.x f in
+    let y : to_z w64 (of_z w64 c.in_ok-y.y) ≡ c.in_ok-y.y = let f : SFits w64 c.in_ok-y.y = search rules in to_z-of_z w64 c.in_ok-y.y f in
+    earlier ((c.in_ok-two.ensures (compares (setting_of c.args.setting.now) (option_map place_of c.args.to.now) (compared c.args.comparison))).ok ∙ (c.in_ok-x.ensures _).ok ∙ (c.in_ok-y.ensures _).ok ∙ (λ i. after (state_of c.read_number-2.new.self) (λ d. statements.store_to (setting_of c.args.setting.now) d (option_map place_of c.args.to.now) (V.Truth (compared c.args.comparison (sym x i) (sym y i))))) ∙ ap (λ b. after (state_of c.read_number-2.new.self) (λ d. statements.store_to (setting_of c.args.setting.now) d (option_map place_of c.args.to.now) (V.Truth b))) (sym c.compared.ensures)) c.store_truth.ensures

@@ -1,0 +1,12 @@
+use Rattle.std.proofs.Common.{sym, ap}
+use Rattle.std.specs.Option.{option_map}
+use Rattle.hy_core.specs.Denotes.{place_of}
+use Rattle.hy_core.specs.Statements as statements
+use Rattle.hy_core.proofs.Carried.{truth_is}
+use Rattle.hy_trial.specs.Leads.{after}
+use Rattle.hy_trial.specs.Views.{setting_of, state_of}
+use Rattle.hy_trial.proofs.Leading.{earlier}
+use Rattle.hy_trial.proofs.machine.Machine.store_truth.Goals as goal
+
+pub returns : goal.returns
+returns c = earlier (ap (λ x. after (state_of c.args.self.now) (λ d. statements.store_to (setting_of c.args.setting.now) d (option_map place_of c.args.to.now) x)) (sym (truth_is c.args.truth))) c.store_to.ensures

@@ -1,0 +1,10 @@
+pub mod Either
+pub mod Views
+pub mod Leads
+pub mod Decided
+pub mod Showing
+pub mod Activations
+pub mod Charges
+pub mod Unwinds
+pub mod Asked
+pub mod Due
