@@ -1,7 +1,7 @@
 #!/bin/sh
 # Measures the parser: makes a throw-away repository with the parser and a small program that parses a generated source of
-# 1,048,576 bytes, and prints how many bytes a second it parses (without the lexer), and how much memory a byte of the source
-# takes at most beyond its tokens. It stands outside the gate.
+# 1,048,576 bytes, and prints how many bytes a second it parses (without the lexer, and without or with the time that it takes to
+# free the tree), and how much memory a byte of the source takes at most beyond its tokens. It stands outside the gate.
 #
 #     sh tests/bench/parser.sh
 . "$(dirname "$0")/repository.sh"
@@ -29,16 +29,19 @@ fn main(rt: HostRuntime) -> io::Result<()> {
     };
     spans_are_apart();
     let mut right = 0u32;
+    let mut micros = 0;
     let start = Instant::now(&rt)?;
     for _ in 0..times {
-        if parse(rt.alloc(), tokens.as_slice(), length).is_ok() {
+        let begun = Instant::now(&rt)?;
+        let parsed = parse(rt.alloc(), tokens.as_slice(), length);
+        micros = begun.elapsed(&rt)?.as_micros().saturating_add(micros);
+        if parsed.is_ok() {
             right = right.saturating_add(1);
         }
     }
-    let spent = start.elapsed(&rt)?;
     let count = tokens.len();
-    let micros = spent.as_micros();
-    println!(rt; "{length} {count} {right} {micros}")
+    let all = start.elapsed(&rt)?.as_micros();
+    println!(rt; "{length} {count} {right} {micros} {all}")
 }
 END
 python3 - "$data" <<'END'
@@ -69,10 +72,10 @@ bench_run
 cd "$data"
 python3 - "$work/out" <<'END'
 import os, subprocess, sys
-length, count, right, micros = map(int, open(sys.argv[1]).read().split())
+length, count, right, micros, all_micros = map(int, open(sys.argv[1]).read().split())
 if right != 20:
     sys.exit("the source was refused")
-print(f"{20 * length / micros:.1f} MB/s ({length} bytes, {count} tokens, {right} times, {micros} microseconds)")
+print(f"{20 * length / micros:.1f} MB/s, {20 * length / all_micros:.1f} with what frees the trees ({length} bytes, {count} tokens, {right} times)")
 
 def peak(times):
     open("times", "w").write("x" * times)
