@@ -9,8 +9,8 @@ use Rattle.hy_core.specs.declared.value.Value.{Value}
 use Rattle.hy_trial.specs.Leads.{Stands}
 use Rattle.hy_trial.specs.declared.machine.Halt.{Halt}
 use Rattle.hy_trial.specs.declared.machine.Halt.TheVariants as H
-use Rattle.hy_trial.specs.declared.results.Sum.{Sum}
-use Rattle.hy_trial.specs.declared.results.Sum.TheVariants as sum
+use Rattle.hy_trial.specs.declared.results.Calculation.{Calculation}
+use Rattle.hy_trial.specs.declared.results.Calculation.TheVariants as calculation
 use Rattle.hy_trial.specs.declared.results.Comparison.{Comparison}
 use Rattle.hy_trial.specs.declared.results.Comparison.TheVariants as comparison
 
@@ -44,12 +44,12 @@ plain_values (Err h) = Err h
 
 -- RESULTS
 
-abbrev pub calculated : Sum → ℤ → ℤ → operators.Result
-calculated sum.Add x y = fitting (x +ℤ y)
-calculated sum.Sub x y = fitting (x -ℤ y)
-calculated sum.Mul x y = fitting (x *ℤ y)
-calculated sum.Div x y = divided int_div x y
-calculated sum.Rem x y = divided int_rem x y
+abbrev pub calculated : Calculation → ℤ → ℤ → operators.Result
+calculated calculation.Add x y = fitting (x +ℤ y)
+calculated calculation.Sub x y = fitting (x -ℤ y)
+calculated calculation.Mul x y = fitting (x *ℤ y)
+calculated calculation.Div x y = divided int_div x y
+calculated calculation.Rem x y = divided int_rem x y
 
 abbrev pub compared : Comparison → ℤ → ℤ → Bool
 compared comparison.Less x y = int_lt x y

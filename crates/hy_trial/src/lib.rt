@@ -34,6 +34,6 @@ pub use machine::{
 };
 pub use operands::{Three, Two};
 pub use places::Reached;
-pub use results::{Comparison, Sum};
+pub use results::{Calculation, Comparison};
 pub use store::{Memory, Store};
 pub use types::{blank_of, constant, element_type, local_type, part_type};

@@ -16,7 +16,7 @@ ghost use Rattle.hy_trial.specs.Leads.{Goes, Leads, after};
 ghost use Rattle.hy_trial.specs.Views.{setting_of, state_of};
 
 use crate::machine::{Halt, Machine, Setting, Stop};
-use crate::results::{Comparison, Sum, calculated, compared, equal};
+use crate::results::{Calculation, Comparison, calculated, compared, equal};
 use hy_base::TrapKind;
 use hy_core::{CoreOp, CorePlace, Given, Value, negative};
 
@@ -103,18 +103,18 @@ impl<'a> Machine<'a> {
     fn arithmetic(
         &mut self,
         setting: &Setting<'a>,
-        sum: Sum,
+        operation: Calculation,
         to: &Option<CorePlace>,
         from: &[CorePlace],
         spans: &[u32],
     ) -> Result<(), Stop>
-        ensures { Goes result (state_of self.old) (λ c. statements.arithmetic (setting_of setting.now) c (option_map place_of to.now) (map place_of from.now) spans.now (calculated sum)) (state_of self.new) }
+        ensures { Goes result (state_of self.old) (λ c. statements.arithmetic (setting_of setting.now) c (option_map place_of to.now) (map place_of from.now) spans.now (calculated operation)) (state_of self.new) }
     {
         let two = self.two(from)?;
         let span = self.span(spans)?;
         let x = self.read_number(setting, two.first)?;
         let y = self.read_number(setting, two.second)?;
-        self.give(setting, to, span, calculated(sum, x, y))
+        self.give(setting, to, span, calculated(operation, x, y))
     }
 
     fn negate(
@@ -213,11 +213,11 @@ impl<'a> Machine<'a> {
         ensures { Goes result (state_of self.old) (λ c. statements.built (setting_of setting.now) c (op_of operation) (option_map place_of to.now) (map place_of from.now) spans.now) (state_of self.new) }
     {
         match operation {
-            CoreOp::Add => self.arithmetic(setting, Sum::Add, to, from, spans),
-            CoreOp::Sub => self.arithmetic(setting, Sum::Sub, to, from, spans),
-            CoreOp::Mul => self.arithmetic(setting, Sum::Mul, to, from, spans),
-            CoreOp::Div => self.arithmetic(setting, Sum::Div, to, from, spans),
-            CoreOp::Rem => self.arithmetic(setting, Sum::Rem, to, from, spans),
+            CoreOp::Add => self.arithmetic(setting, Calculation::Add, to, from, spans),
+            CoreOp::Sub => self.arithmetic(setting, Calculation::Sub, to, from, spans),
+            CoreOp::Mul => self.arithmetic(setting, Calculation::Mul, to, from, spans),
+            CoreOp::Div => self.arithmetic(setting, Calculation::Div, to, from, spans),
+            CoreOp::Rem => self.arithmetic(setting, Calculation::Rem, to, from, spans),
             CoreOp::Neg => self.negate(setting, to, from, spans),
             CoreOp::Eq => self.equate(setting, to, from),
             CoreOp::Lt => self.compare(setting, Comparison::Less, to, from),

@@ -10,7 +10,7 @@ use hy_core::{Given, Value, difference, product, quotient, remainder, sum};
 
 /// An operation on two numbers that may trap.
 #[derive(Clone, Copy)]
-pub enum Sum {
+pub enum Calculation {
     Add,
     Sub,
     Mul,
@@ -26,15 +26,15 @@ pub enum Comparison {
 }
 
 /// What an operation on two numbers gives.
-pub fn calculated(operation: Sum, x: i64, y: i64) -> Given
+pub fn calculated(operation: Calculation, x: i64, y: i64) -> Given
     ensures { given_of result ≡ calculated operation x y }
 {
     match operation {
-        Sum::Add => sum(x, y),
-        Sum::Sub => difference(x, y),
-        Sum::Mul => product(x, y),
-        Sum::Div => quotient(x, y),
-        Sum::Rem => remainder(x, y),
+        Calculation::Add => sum(x, y),
+        Calculation::Sub => difference(x, y),
+        Calculation::Mul => product(x, y),
+        Calculation::Div => quotient(x, y),
+        Calculation::Rem => remainder(x, y),
     }
 }
 
