@@ -1,5 +1,5 @@
 // Chains of operators whose next operand is to come, level by level.
-ghost use Rattle.std.specs.Prelude.{◌≡◌, ◌≢◌, ◌↔◌, IsTrue, Some, None, IfOk};
+ghost use Rattle.std.specs.Prelude.{◌≡◌, ◌≢◌, ◌↔◌, IsTrue, Some, None, IfOk, OnOk};
 ghost use Rattle.hy_tree.specs.Denotes.{expr_of, link_of};
 ghost use Rattle.hy_grammar.specs.ExprSteps as steps;
 ghost use Rattle.hy_phrases.specs.Infixes.{level_of};
@@ -95,6 +95,28 @@ fn extend(
     }))
 }
 
+/// Ends the chain of a level with this operand, where one is open.
+fn close(alloc: Global, tier: &mut Option<OpenChain>, operand: Expr) -> Result<Expr, AllocError>
+    ensures made { IfOk result (λ made. expr_of made ≡ steps.join (tier_of tier.old) (expr_of operand)) }
+    ensures closed { tier.new ≡ None }
+{
+    join(alloc, tier.take(), operand)
+}
+
+/// Goes on with the chain of a level behind this operand, or opens it.
+fn go_on(
+    alloc: Global,
+    tier: &mut Option<OpenChain>,
+    operand: Expr,
+    operator: Operator,
+    token: Span,
+) -> Result<(), AllocError>
+    ensures { OnOk result (tier_of tier.new ≡ steps.extend (tier_of tier.old) (expr_of operand) operator token) }
+{
+    *tier = extend(alloc, tier.take(), operand, operator, token)?;
+    Ok(())
+}
+
 impl Tiers {
     /// No chain is open.
     pub fn new() -> Tiers
@@ -120,11 +142,12 @@ impl Tiers {
     pub fn joined(self, alloc: Global, operand: Expr) -> Result<Expr, AllocError>
         ensures { IfOk result (λ made. expr_of made ≡ steps.joined kinds.Disjunction (expr_of operand) (tiers_of self)) }
     {
-        let operand = join(alloc, self.multiplication, operand)?;
-        let operand = join(alloc, self.addition, operand)?;
-        let operand = join(alloc, self.comparison, operand)?;
-        let operand = join(alloc, self.conjunction, operand)?;
-        join(alloc, self.disjunction, operand)
+        let mut tiers = self;
+        let operand = close(alloc, &mut tiers.multiplication, operand)?;
+        let operand = close(alloc, &mut tiers.addition, operand)?;
+        let operand = close(alloc, &mut tiers.comparison, operand)?;
+        let operand = close(alloc, &mut tiers.conjunction, operand)?;
+        close(alloc, &mut tiers.disjunction, operand)
     }
 
     /// An operator behind this operand. A comparison has one operator.
@@ -141,30 +164,26 @@ impl Tiers {
         let mut tiers = self;
         let operator = found.operator;
         if found.level == Level::Multiplication {
-            tiers.multiplication = extend(alloc, tiers.multiplication, operand, operator, token)?;
+            go_on(alloc, &mut tiers.multiplication, operand, operator, token)?;
             return Ok(tiers);
         }
-        let operand = join(alloc, tiers.multiplication, operand)?;
-        tiers.multiplication = None;
+        let operand = close(alloc, &mut tiers.multiplication, operand)?;
         if found.level == Level::Addition {
-            tiers.addition = extend(alloc, tiers.addition, operand, operator, token)?;
+            go_on(alloc, &mut tiers.addition, operand, operator, token)?;
             return Ok(tiers);
         }
-        let operand = join(alloc, tiers.addition, operand)?;
-        tiers.addition = None;
+        let operand = close(alloc, &mut tiers.addition, operand)?;
         if found.level == Level::Comparison {
-            tiers.comparison = extend(alloc, tiers.comparison, operand, operator, token)?;
+            go_on(alloc, &mut tiers.comparison, operand, operator, token)?;
             return Ok(tiers);
         }
-        let operand = join(alloc, tiers.comparison, operand)?;
-        tiers.comparison = None;
+        let operand = close(alloc, &mut tiers.comparison, operand)?;
         if found.level == Level::Conjunction {
-            tiers.conjunction = extend(alloc, tiers.conjunction, operand, operator, token)?;
+            go_on(alloc, &mut tiers.conjunction, operand, operator, token)?;
             return Ok(tiers);
         }
-        let operand = join(alloc, tiers.conjunction, operand)?;
-        tiers.conjunction = None;
-        tiers.disjunction = extend(alloc, tiers.disjunction, operand, operator, token)?;
+        let operand = close(alloc, &mut tiers.conjunction, operand)?;
+        go_on(alloc, &mut tiers.disjunction, operand, operator, token)?;
         Ok(tiers)
     }
 }
