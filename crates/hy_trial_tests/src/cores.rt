@@ -1,5 +1,6 @@
 // Cores, written a function a line: `fun LENT OWNED RESULT LOCALS: BODY` or `ramp ..`, with types by name and `-` for none.
 use crate::bodies::body;
+use crate::statements::{number, parted};
 use hy_base::Span;
 use hy_core::{Core, CoreFun};
 use hy_types::{Ty, TyId, TyList, TyTable};
@@ -15,9 +16,14 @@ pub const INDEX_SPAN: Span = Span { from: 10, to: 11 };
 /// Where another operation traps.
 pub const TRAP_SPAN: Span = Span { from: 20, to: 25 };
 
-// The types of all cores, by their numbers: an array of `Int` is `ints`; a `dying` is product 0 and has an `Int`, a `tree` is
-// product 1 and has an array of trees, a `two` is product 2 and has two dyings, and a `cell` is product 3 and has an `Int`.
+// The types of all cores, by their numbers, and what each of them is.
 const NAMES: &str = "unit,int,bool,pair,ints,dying,dyings,rows,tree,trees,two,couple,cell";
+
+const FORMS: &str =
+    "tuple -;int;bool;tuple int,int;array int;product 0;array dying;array ints;product 1;array tree;product 2;tuple dying,dying;product 3";
+
+// The parts of each product.
+const PRODUCTS: &str = "0 int;1 trees;2 dying,dying;3 int";
 
 fn type_of(name: &str) -> Result<TyId, Fail> {
     let at = NAMES.split(',').position(|known| known == name);
@@ -45,8 +51,24 @@ fn intern(rt: &impl Abort, types: &mut TyTable, ty: Ty) -> Result<(), Fail> {
     Ok(())
 }
 
-fn array(rt: &impl Abort, types: &mut TyTable, element: &str) -> Result<(), Fail> {
-    intern(rt, types, Ty::Array(type_of(element)?))
+/// A type by its form: `int`, `bool`, `tuple TYPES`, `array TYPE` or `product NUMBER`.
+fn formed(alloc: Global, form: &str) -> Result<Ty, Fail> {
+    let (word, of) = form.split_once(' ').unwrap_or((form, ""));
+    match word {
+        "int" => Ok(Ty::Int),
+        "bool" => Ok(Ty::Bool),
+        "tuple" => Ok(Ty::Tuple(types_of(alloc, of)?)),
+        "array" => Ok(Ty::Array(type_of(of)?)),
+        "product" => Ok(Ty::Product(number(of)?)),
+        _ => Err("no such form of a type")?,
+    }
+}
+
+fn add_types(rt: &impl Abort, alloc: Global, types: &mut TyTable) -> Result<(), Fail> {
+    for form in FORMS.split(';') {
+        intern(rt, types, formed(alloc, form)?)?;
+    }
+    Ok(())
 }
 
 fn declare(rt: &impl Abort, types: &mut TyTable, product: u32, parts: TyList) -> Result<(), Fail> {
@@ -56,37 +78,40 @@ fn declare(rt: &impl Abort, types: &mut TyTable, product: u32, parts: TyList) ->
     Ok(())
 }
 
-fn add_types(rt: &impl Abort, alloc: Global, types: &mut TyTable) -> Result<(), Fail> {
-    intern(rt, types, Ty::Tuple(types_of(alloc, "-")?))?;
-    intern(rt, types, Ty::Int)?;
-    intern(rt, types, Ty::Bool)?;
-    intern(rt, types, Ty::Tuple(types_of(alloc, "int,int")?))?;
-    array(rt, types, "int")?;
-    intern(rt, types, Ty::Product(0))?;
-    array(rt, types, "dying")?;
-    array(rt, types, "ints")?;
-    intern(rt, types, Ty::Product(1))?;
-    array(rt, types, "tree")?;
-    intern(rt, types, Ty::Product(2))?;
-    intern(rt, types, Ty::Tuple(types_of(alloc, "dying,dying")?))?;
-    intern(rt, types, Ty::Product(3))
+fn add_product(rt: &impl Abort, alloc: Global, types: &mut TyTable, row: &str) -> Result<(), Fail> {
+    let (product, parts) = parted(row, " ", "a product has parts")?;
+    declare(rt, types, number(product)?, types_of(alloc, parts)?)
 }
 
 fn add_products(rt: &impl Abort, alloc: Global, types: &mut TyTable) -> Result<(), Fail> {
-    declare(rt, types, 0, types_of(alloc, "int")?)?;
-    declare(rt, types, 1, types_of(alloc, "trees")?)?;
-    declare(rt, types, 2, types_of(alloc, "dying,dying")?)?;
-    declare(rt, types, 3, types_of(alloc, "int")?)
+    for row in PRODUCTS.split(';') {
+        add_product(rt, alloc, types, row)?;
+    }
+    Ok(())
+}
+
+fn add_all(rt: &impl Abort, alloc: Global, types: &mut TyTable) -> Result<(), Fail> {
+    add_types(rt, alloc, types)?;
+    add_products(rt, alloc, types)
+}
+
+fn all_types(rt: &impl Abort, alloc: Global) -> Result<TyTable, Fail> {
+    let mut types = TyTable::new(alloc);
+    add_all(rt, alloc, &mut types)?;
+    Ok(types)
+}
+
+fn all_spans(alloc: Global) -> Result<Items<Span>, Fail> {
+    let mut spans = Items::new(alloc);
+    spans.push(INDEX_SPAN)?;
+    spans.push(TRAP_SPAN)?;
+    Ok(spans)
 }
 
 /// A core without functions.
 pub fn no_core(rt: &impl Abort, alloc: Global) -> Result<Core, Fail> {
-    let mut types = TyTable::new(alloc);
-    add_types(rt, alloc, &mut types)?;
-    add_products(rt, alloc, &mut types)?;
-    let mut spans = Items::new(alloc);
-    spans.push(INDEX_SPAN)?;
-    spans.push(TRAP_SPAN)?;
+    let spans = all_spans(alloc)?;
+    let types = all_types(rt, alloc)?;
     Ok(Core {
         types,
         funs: Items::new(alloc),
@@ -95,19 +120,36 @@ pub fn no_core(rt: &impl Abort, alloc: Global) -> Result<Core, Fail> {
     })
 }
 
-/// A function, by the words of its heading and its body.
-fn function(alloc: Global, ramp: bool, words: &[&str], text: &str) -> Result<CoreFun, Fail> {
-    if words.len() != 5 {
-        Err("a function has four words behind the first")?
-    }
+fn of_types(
+    alloc: Global,
+    ramp: bool,
+    lent: &str,
+    owned: &str,
+    given: &str,
+    locals: &str,
+    text: &str,
+) -> Result<CoreFun, Fail> {
+    let result = type_of(given)?;
+    let lent = types_of(alloc, lent)?;
+    let owned = types_of(alloc, owned)?;
+    let locals = types_of(alloc, locals)?;
+    let body = body(alloc, text)?;
     Ok(CoreFun {
-        lent: types_of(alloc, words[1])?,
-        owned: types_of(alloc, words[2])?,
-        result: type_of(words[3])?,
-        locals: types_of(alloc, words[4])?,
+        lent,
+        owned,
+        result,
+        locals,
         ramp,
-        body: body(alloc, text)?,
+        body,
     })
+}
+
+/// A function, by the words of its heading and its body.
+fn function(alloc: Global, ramp: bool, words: &str, text: &str) -> Result<CoreFun, Fail> {
+    let (lent, rest) = parted(words, " ", "a function has owned parameters")?;
+    let (owned, rest) = parted(rest, " ", "a function has a result")?;
+    let (given, locals) = parted(rest, " ", "a function has locals")?;
+    of_types(alloc, ramp, lent, owned, given, locals, text)
 }
 
 /// Adds a function.
@@ -115,7 +157,7 @@ pub fn add_function(
     alloc: Global,
     core: &mut Core,
     ramp: bool,
-    words: &[&str],
+    words: &str,
     text: &str,
 ) -> Result<(), Fail> {
     core.funs.push(function(alloc, ramp, words, text)?)?;
@@ -123,8 +165,8 @@ pub fn add_function(
 }
 
 /// Gives products 0 and 2 the functions of these numbers as bodies of their deinitialisers.
-pub fn add_deinits(core: &mut Core, dying: u32, two: u32) -> Result<(), Fail> {
-    core.deinits.insert(0, dying)?;
-    core.deinits.insert(2, two)?;
+pub fn add_deinits(core: &mut Core, dying: &str, two: &str) -> Result<(), Fail> {
+    core.deinits.insert(0, number(dying)?)?;
+    core.deinits.insert(2, number(two)?)?;
     Ok(())
 }

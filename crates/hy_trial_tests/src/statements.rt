@@ -11,28 +11,45 @@ pub fn number(word: &str) -> Result<u32, Fail> {
     Ok(word.parse::<u32>().map_err(|_| "a number is wanted")?)
 }
 
-fn part_of(alloc: Global, local: &str, part: &str) -> Result<CorePlace, Fail> {
-    let mut steps = Items::new(alloc);
-    for step in part.split('.') {
-        steps.push(CoreStep::Part(number(step)?))?;
+/// A text before and behind the first place where another stands in it.
+pub fn parted<'t>(text: &'t str, by: &str, why: &'static str) -> Result<(&'t str, &'t str), Fail> {
+    match text.split_once(by) {
+        Some(both) => Ok(both),
+        None => Err(why)?,
     }
-    Ok(CorePlace {
-        local: number(local)?,
-        steps,
-    })
+}
+
+fn parts(alloc: Global, word: &str) -> Result<Items<CoreStep>, Fail> {
+    let mut steps = Items::new(alloc);
+    for part in word.split('.') {
+        let part = number(part)?;
+        steps.push(CoreStep::Part(part))?;
+    }
+    Ok(steps)
+}
+
+fn index(word: &str) -> Result<u32, Fail> {
+    number(word.strip_suffix(']').ok_or("an index ends in a bracket")?)
+}
+
+fn element(alloc: Global, word: &str) -> Result<Items<CoreStep>, Fail> {
+    let index = index(word)?;
+    let mut steps = Items::new(alloc);
+    steps.push(CoreStep::Index(index, 0))?;
+    Ok(steps)
 }
 
 fn place(alloc: Global, word: &str) -> Result<CorePlace, Fail> {
     if let Some((local, part)) = word.split_once('.') {
-        return part_of(alloc, local, part);
-    }
-    if let Some((local, index)) = word.split_once('[') {
-        let index = index.strip_suffix(']').ok_or("an index ends in a bracket")?;
-        let mut steps = Items::new(alloc);
-        steps.push(CoreStep::Index(number(index)?, 0))?;
         return Ok(CorePlace {
             local: number(local)?,
-            steps,
+            steps: parts(alloc, part)?,
+        });
+    }
+    if let Some((local, index)) = word.split_once('[') {
+        return Ok(CorePlace {
+            local: number(local)?,
+            steps: element(alloc, index)?,
         });
     }
     Ok(CorePlace {
@@ -111,33 +128,48 @@ fn built(alloc: Global, op: CoreOp, to: &str, from: &str) -> Result<CoreStmt, Fa
     })
 }
 
+fn set(alloc: Global, to: &str, value: &str) -> Result<CoreStmt, Fail> {
+    let value = value.parse::<i64>().map_err(|_| "a number is wanted")?;
+    Ok(CoreStmt::Set {
+        to: place(alloc, to)?,
+        value,
+    })
+}
+
+fn opened(alloc: Global, to: &str, place_word: &str, write: bool) -> Result<CoreStmt, Fail> {
+    Ok(CoreStmt::Lend {
+        to: number(to)?,
+        place: place(alloc, place_word)?,
+        write,
+    })
+}
+
+fn two_places(alloc: Global, to: &str, from: &str) -> Result<(CorePlace, CorePlace), Fail> {
+    let to = place(alloc, to)?;
+    let from = place(alloc, from)?;
+    Ok((to, from))
+}
+
+fn moved(alloc: Global, to: &str, from: &str) -> Result<CoreStmt, Fail> {
+    let (to, from) = two_places(alloc, to, from)?;
+    Ok(CoreStmt::Move { to, from })
+}
+
+fn copied(alloc: Global, to: &str, from: &str) -> Result<CoreStmt, Fail> {
+    let (to, from) = two_places(alloc, to, from)?;
+    Ok(CoreStmt::Copy { to, from })
+}
+
 fn of_three(alloc: Global, word: &str, first: &str, second: &str) -> Result<CoreStmt, Fail> {
     if let Some(op) = operation(word) {
         return built(alloc, op, first, second);
     }
     match word {
-        "set" => Ok(CoreStmt::Set {
-            to: place(alloc, first)?,
-            value: second.parse::<i64>().map_err(|_| "a number is wanted")?,
-        }),
-        "lend" => Ok(CoreStmt::Lend {
-            to: number(first)?,
-            place: place(alloc, second)?,
-            write: false,
-        }),
-        "inout" => Ok(CoreStmt::Lend {
-            to: number(first)?,
-            place: place(alloc, second)?,
-            write: true,
-        }),
-        "move" => Ok(CoreStmt::Move {
-            to: place(alloc, first)?,
-            from: place(alloc, second)?,
-        }),
-        "copy" => Ok(CoreStmt::Copy {
-            to: place(alloc, first)?,
-            from: place(alloc, second)?,
-        }),
+        "set" => set(alloc, first, second),
+        "lend" => opened(alloc, first, second, false),
+        "inout" => opened(alloc, first, second, true),
+        "move" => moved(alloc, first, second),
+        "copy" => copied(alloc, first, second),
         _ => Err("no such statement")?,
     }
 }
@@ -163,38 +195,45 @@ fn of_two(alloc: Global, word: &str, place_word: &str) -> Result<CoreStmt, Fail>
     }
 }
 
+fn call(alloc: Global, fun: &str, lent: &str, owned: &str, to: &str) -> Result<CoreStmt, Fail> {
+    let fun = number(fun)?;
+    let to = place(alloc, to)?;
+    let lent = locals(alloc, lent)?;
+    let owned = places(alloc, owned)?;
+    Ok(CoreStmt::Call {
+        fun,
+        lent,
+        owned,
+        to,
+    })
+}
+
+fn project(alloc: Global, fun: &str, lent: &str, owned: &str, to: &str) -> Result<CoreStmt, Fail> {
+    let fun = number(fun)?;
+    let to = number(to)?;
+    let lent = locals(alloc, lent)?;
+    let owned = places(alloc, owned)?;
+    Ok(CoreStmt::Project {
+        fun,
+        lent,
+        owned,
+        to,
+    })
+}
+
 /// `call FUN LENT OWNED TO` and `project FUN LENT OWNED TO`.
 fn of_five(alloc: Global, words: &[&str]) -> Result<CoreStmt, Fail> {
     if words.len() != 5 {
         Err("no such statement")?
     }
-    let fun = number(words[1])?;
-    let lent = locals(alloc, words[2])?;
-    let owned = places(alloc, words[3])?;
     match words[0] {
-        "call" => Ok(CoreStmt::Call {
-            fun,
-            lent,
-            owned,
-            to: place(alloc, words[4])?,
-        }),
-        "project" => Ok(CoreStmt::Project {
-            fun,
-            lent,
-            owned,
-            to: number(words[4])?,
-        }),
+        "call" => call(alloc, words[1], words[2], words[3], words[4]),
+        "project" => project(alloc, words[1], words[2], words[3], words[4]),
         _ => Err("no such statement")?,
     }
 }
 
-/// A statement that holds no others.
-pub fn statement(alloc: Global, line: &str) -> Result<CoreStmt, Fail> {
-    let mut words: Vec<&str> = Vec::new(alloc);
-    for word in line.split(' ') {
-        words.push(word)?;
-    }
-    let words = words.as_slice();
+fn of_words(alloc: Global, words: &[&str]) -> Result<CoreStmt, Fail> {
     match words.len() {
         1 if words[0] == "break" => Ok(CoreStmt::Break),
         1 if words[0] == "continue" => Ok(CoreStmt::Continue),
@@ -202,4 +241,18 @@ pub fn statement(alloc: Global, line: &str) -> Result<CoreStmt, Fail> {
         3 => of_three(alloc, words[0], words[1], words[2]),
         _ => of_five(alloc, words),
     }
+}
+
+fn words<'l>(alloc: Global, line: &'l str) -> Result<Vec<&'l str>, Fail> {
+    let mut words = Vec::new(alloc);
+    for word in line.split(' ') {
+        words.push(word)?;
+    }
+    Ok(words)
+}
+
+/// A statement that holds no others.
+pub fn statement(alloc: Global, line: &str) -> Result<CoreStmt, Fail> {
+    let words = words(alloc, line)?;
+    of_words(alloc, words.as_slice())
 }

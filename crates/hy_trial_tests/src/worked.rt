@@ -4,7 +4,7 @@
 // a `Drop` gives its place up, and `core ..` of one in which it deinitialises. `differs TURNS: COPIED = LENT` is of a core that
 // is not calm, with what either memory writes. A number or truth value of an output is a line; `-` stands for none.
 use crate::cores::{INDEX_SPAN, TRAP_SPAN, add_deinits, add_function, no_core};
-use crate::statements::number;
+use crate::statements::{number, parted};
 use hy_base::{End, TrapKind};
 use hy_core::Core;
 use hy_trial::{Halt, Memory, Seen, Stage, run};
@@ -12,12 +12,13 @@ use std::alloc::Global;
 use std::process::Abort;
 use std::test::Fail;
 
-// Where `i` is read, `var a = [10, 20]; var i = read(); print(a.count); print(a[i])`.
-const READING: &str =
-    "fun - - unit unit,ints,int,int,int: array 1 -; set 2 10; push - 1,2; set 2 20; push - 1,2; read 3 -; count 4 1; print - 4; drop 4; print - 1[3]; drop 3; drop 1; set 0 0; leave 0";
+const READING: &str = "# var a = [10, 20]; var i = read(); print(a.count); print(a[i])
+fun - - unit unit,ints,int,int,int: array 1 -; set 2 10; push - 1,2; set 2 20; push - 1,2; read 3 -; count 4 1; print - 4; drop 4; print - 1[3]; drop 3; drop 1; set 0 0; leave 0";
 
 // Whether the input is only a beginning, the input, how many bytes are taken, and what the run shows.
-const INPUTS: [(bool, &str, usize, &str); 9] = [
+type Input<'a> = (bool, &'a str, usize, &'a str);
+
+const INPUTS: [Input; 9] = [
     (false, "1\n", 2, "2 20 = done 4 4"),
     (false, " 01 \r\n5", 6, "2 20 = done 4 4"),
     (false, "2\n", 2, "2 = index 1 0"),
@@ -212,14 +213,6 @@ fun - - unit unit,int,int,int,int,pair,pair: set 5.0 1; set 5.1 2; inout 6 5; pr
 ramp pair - int int,int,unit: inout 1 0.0; inout 2 1; set 2 7; yield 1
 differs 5: 1 = 7";
 
-fn words<'b>(alloc: Global, text: &'b str) -> Result<Vec<&'b str>, Fail> {
-    let mut words = Vec::new(alloc);
-    for word in text.split(' ') {
-        words.push(word)?;
-    }
-    Ok(words)
-}
-
 /// The output in which each of the words is a line.
 fn lines_of(alloc: Global, text: &str) -> Result<Vec<u8>, Fail> {
     let mut lines = Vec::new(alloc);
@@ -254,29 +247,40 @@ fn is_end(halt: Halt, wanted: End) -> bool {
     }
 }
 
+fn want(rt: &impl Abort, shown: bool, wanted: &str) {
+    assert!(rt; shown, "wanted {wanted}");
+}
+
+fn check_output(
+    rt: &impl Abort,
+    alloc: Global,
+    seen: &Seen,
+    output: &str,
+    wanted: &str,
+) -> Result<(), Fail> {
+    let lines = lines_of(alloc, output)?;
+    want(rt, seen.output.as_slice() == lines.as_slice(), wanted);
+    Ok(())
+}
+
+fn check_counts(rt: &impl Abort, seen: &Seen, counts: &str, wanted: &str) -> Result<(), Fail> {
+    let (turns, opened) = parted(counts, " ", "places are wanted")?;
+    want(rt, seen.turns == u64::from(number(turns)?), wanted);
+    want(rt, seen.opened == u64::from(number(opened)?), wanted);
+    Ok(())
+}
+
+fn check_end(rt: &impl Abort, seen: &Seen, end: &str, wanted: &str) -> Result<(), Fail> {
+    let (end, counts) = parted(end, " ", "turns are wanted")?;
+    want(rt, is_end(seen.halt, end_of(end)?), wanted);
+    check_counts(rt, seen, counts, wanted)
+}
+
 /// That a run shows what is wanted of it: `OUTPUT = END TURNS OPENED`.
 fn check(rt: &impl Abort, alloc: Global, seen: &Seen, wanted: &str) -> Result<(), Fail> {
-    let (output, rest) = wanted.split_once(" = ").ok_or("an end is wanted")?;
-    let rest = words(alloc, rest)?;
-    let rest = rest.as_slice();
-    if rest.len() != 3 {
-        Err("an end, turns and places are wanted")?
-    }
-    let lines = lines_of(alloc, output)?;
-    assert!(rt;
-        seen.output.as_slice() == lines.as_slice(),
-        "wanted {wanted}"
-    );
-    assert!(rt; is_end(seen.halt, end_of(rest[0])?), "wanted {wanted}");
-    assert!(rt;
-        seen.turns == u64::from(number(rest[1])?),
-        "wanted {wanted}"
-    );
-    assert!(rt;
-        seen.opened == u64::from(number(rest[2])?),
-        "wanted {wanted}"
-    );
-    Ok(())
+    let (output, end) = parted(wanted, " = ", "an end is wanted")?;
+    check_output(rt, alloc, seen, output, wanted)?;
+    check_end(rt, seen, end, wanted)
 }
 
 fn shows(
@@ -295,6 +299,19 @@ fn shows(
     Ok(())
 }
 
+fn writes(
+    rt: &impl Abort,
+    alloc: Global,
+    core: &Core,
+    memory: Memory,
+    turns: u64,
+    output: &str,
+    wanted: &str,
+) -> Result<(), Fail> {
+    let seen = run(alloc, memory, Stage::GivesUp, core, b"", false, turns)?;
+    check_output(rt, alloc, &seen, output, wanted)
+}
+
 fn differs(
     rt: &impl Abort,
     alloc: Global,
@@ -303,53 +320,92 @@ fn differs(
     wanted: &str,
 ) -> Result<(), Fail> {
     let turns = u64::from(number(turns)?);
-    let (copied, lent) = wanted.split_once(" = ").ok_or("two outputs are wanted")?;
-    for (memory, output) in [(Memory::Copying, copied), (Memory::Lending, lent)] {
-        let seen = run(alloc, memory, Stage::GivesUp, core, b"", false, turns)?;
-        let lines = lines_of(alloc, output)?;
-        assert!(rt;
-            seen.output.as_slice() == lines.as_slice(),
-            "wanted {wanted}"
-        );
-    }
-    Ok(())
+    let (copied, lent) = parted(wanted, " = ", "two outputs are wanted")?;
+    writes(rt, alloc, core, Memory::Copying, turns, copied, wanted)?;
+    writes(rt, alloc, core, Memory::Lending, turns, lent, wanted)
 }
 
-/// A line behind a heading: a function of the core, or a run.
-fn line(
+fn check_run(
     rt: &impl Abort,
     alloc: Global,
-    core: &mut Core,
-    head: &[&str],
-    rest: &str,
+    core: &Core,
+    word: &str,
+    turns: &str,
+    wanted: &str,
 ) -> Result<(), Fail> {
-    if head.len() < 2 {
-        Err("two words are wanted")?
-    }
-    match head[0] {
-        "fun" => add_function(alloc, core, false, head, rest),
-        "ramp" => add_function(alloc, core, true, head, rest),
-        "deinits" => add_deinits(core, number(head[1])?, number(rest)?),
-        "checked" => shows(rt, alloc, core, Stage::GivesUp, head[1], rest),
-        "core" => shows(rt, alloc, core, Stage::Deinitialises, head[1], rest),
-        "differs" => differs(rt, alloc, core, head[1], rest),
+    match word {
+        "checked" => shows(rt, alloc, core, Stage::GivesUp, turns, wanted),
+        "core" => shows(rt, alloc, core, Stage::Deinitialises, turns, wanted),
+        "differs" => differs(rt, alloc, core, turns, wanted),
         _ => Err("no such line")?,
     }
 }
 
-/// A core that each heading begins, and its lines.
-fn check_all(rt: &impl Abort, alloc: Global, text: &str) -> Result<(), Fail> {
-    let mut core = no_core(rt, alloc)?;
+/// A line behind a heading: a function of the core, or a run.
+fn line(rt: &impl Abort, alloc: Global, core: &mut Core, text: &str) -> Result<(), Fail> {
+    let (head, rest) = parted(text, ": ", "a function or a run is wanted")?;
+    let (word, more) = parted(head, " ", "two words are wanted")?;
+    match word {
+        "fun" => add_function(alloc, core, false, more, rest),
+        "ramp" => add_function(alloc, core, true, more, rest),
+        "deinits" => add_deinits(core, more, rest),
+        _ => check_run(rt, alloc, core, word, more, rest),
+    }
+}
+
+fn check_lines(rt: &impl Abort, alloc: Global, core: &mut Core, text: &str) -> Result<(), Fail> {
     for text in text.lines() {
-        if text.starts_with('#') {
-            core = no_core(rt, alloc)?;
-        } else {
-            let (head, rest) = text
-                .split_once(": ")
-                .ok_or("a function or a run is wanted")?;
-            let head = words(alloc, head)?;
-            line(rt, alloc, &mut core, head.as_slice(), rest)?;
-        }
+        line(rt, alloc, core, text)?;
+    }
+    Ok(())
+}
+
+/// That a run with an input takes so much of it, and shows what is wanted.
+fn reads(
+    rt: &impl Abort,
+    alloc: Global,
+    core: &Core,
+    memory: Memory,
+    input: &Input,
+) -> Result<(), Fail> {
+    let (cut, text, taken, wanted) = *input;
+    let bytes = text.as_bytes();
+    let seen = run(alloc, memory, Stage::Deinitialises, core, bytes, cut, 100)?;
+    want(rt, seen.taken == taken, wanted);
+    check(rt, alloc, &seen, wanted)
+}
+
+fn check_inputs(rt: &impl Abort, alloc: Global, core: &Core, inputs: &[Input]) -> Result<(), Fail> {
+    for input in inputs {
+        reads(rt, alloc, core, Memory::Copying, input)?;
+        reads(rt, alloc, core, Memory::Lending, input)?;
+    }
+    Ok(())
+}
+
+fn check_parts(
+    rt: &impl Abort,
+    alloc: Global,
+    core: &mut Core,
+    text: &str,
+    inputs: &[Input],
+) -> Result<(), Fail> {
+    let (_, lines) = parted(text, "\n", "lines stand behind a heading")?;
+    check_lines(rt, alloc, core, lines)?;
+    check_inputs(rt, alloc, core, inputs)
+}
+
+/// A core by its heading and the lines behind it, and what it does with inputs.
+fn check_core(rt: &impl Abort, alloc: Global, text: &str, inputs: &[Input]) -> Result<(), Fail> {
+    let mut core = no_core(rt, alloc)?;
+    check_parts(rt, alloc, &mut core, text, inputs)
+}
+
+/// A core that each heading begins.
+fn check_all(rt: &impl Abort, alloc: Global, text: &str) -> Result<(), Fail> {
+    let cores = text.strip_prefix('#').ok_or("a heading comes first")?;
+    for text in cores.split("\n#") {
+        check_core(rt, alloc, text, &[])?;
     }
     Ok(())
 }
@@ -386,30 +442,5 @@ fn memories_differ(rt: HostRuntime) -> Result<(), Fail> {
 
 #[test]
 fn inputs_are_read(rt: HostRuntime) -> Result<(), Fail> {
-    let alloc = rt.alloc();
-    let mut core = no_core(&rt, alloc)?;
-    let (head, body) = READING.split_once(": ").ok_or("a function is wanted")?;
-    add_function(
-        alloc,
-        &mut core,
-        false,
-        words(alloc, head)?.as_slice(),
-        body,
-    )?;
-    for (cut, input, taken, wanted) in INPUTS {
-        for memory in [Memory::Copying, Memory::Lending] {
-            let seen = run(
-                alloc,
-                memory,
-                Stage::Deinitialises,
-                &core,
-                input.as_bytes(),
-                cut,
-                100,
-            )?;
-            assert!(rt; seen.taken == taken, "wanted {wanted}");
-            check(&rt, alloc, &seen, wanted)?;
-        }
-    }
-    Ok(())
+    check_core(&rt, rt.alloc(), READING, &INPUTS)
 }
