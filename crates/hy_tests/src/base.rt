@@ -1,3 +1,5 @@
+ghost use Rattle.std.specs.Prelude.{◌≤◌, ◌<◌, ◌+◌, ◌-◌, ◌^◌};
+
 use hy_base::{
     FileFault, Files, MemFiles, MemSink, PlainFiles, PlainSink, PlainSource, Sink, Source,
 };
@@ -44,27 +46,50 @@ fn a_sink_fails_as_it_is_told(rt: HostRuntime) -> Result<(), Fail> {
             sink.put(b"de").is_ok(),
             sink.put(b"f").is_ok(),
         ];
-        assert_eq!(rt; results, done);
-        assert_eq!(rt; sink.bytes(), want.as_bytes());
+        assert_eq!(rt; (results, sink.bytes()), (done, want.as_bytes()));
     }
     Ok(())
 }
 
 fn one_file(alloc: Global) -> Result<IndexMap<String, Vec<u8>>, Fail> {
+    let name = String::from_str(alloc, "a")?;
+    let bytes = b"xyz".to_vec(alloc)?;
     let mut contents = IndexMap::new(alloc);
-    contents.insert(String::from_str(alloc, "a")?, b"xyz".to_vec(alloc)?)?;
+    contents.insert(name, bytes)?;
     Ok(contents)
+}
+
+// Whether a load of at most `most` bytes, and one more, gives these.
+fn gives<F: Files>(
+    files: &mut F,
+    alloc: Global,
+    name: &str,
+    most: u32,
+    want: &[u8],
+) -> Result<bool, FileFault>
+    requires { F.faults files.old < 2 ^ 64 - 1 }
+    ensures { F.faults files.new ≤ F.faults files.old + 1 }
+{
+    Ok(files.load(alloc, name, most)?.as_slice() == want)
 }
 
 #[test]
 fn plain_files_hold_every_name(rt: HostRuntime) -> Result<(), Fail> {
     let alloc = rt.alloc();
     let mut files = PlainFiles::new(one_file(alloc)?);
-    assert_eq!(rt; files.load(alloc, "a", 1)?.as_slice(), b"xy".as_slice());
-    assert_eq!(rt; files.load(alloc, "b", 1)?.as_slice(), b"".as_slice());
-    files.store(alloc, "b", b"q")?;
-    assert_eq!(rt; files.load(alloc, "b", 9)?.as_slice(), b"q".as_slice());
-    assert_eq!(rt; files.load(alloc, "a", 9)?.as_slice(), b"xyz".as_slice());
+    let before = [
+        gives(&mut files, alloc, "a", 1, b"xy"),
+        gives(&mut files, alloc, "b", 1, b""),
+    ];
+    let stored = files.store(alloc, "b", b"q");
+    let after = [
+        gives(&mut files, alloc, "b", 9, b"q"),
+        gives(&mut files, alloc, "a", 9, b"xyz"),
+    ];
+    assert_eq!(rt;
+        (before, stored, after),
+        ([Ok(true); 2], Ok(()), [Ok(true); 2])
+    );
     Ok(())
 }
 
@@ -72,12 +97,18 @@ fn plain_files_hold_every_name(rt: HostRuntime) -> Result<(), Fail> {
 fn files_fail_as_they_are_told(rt: HostRuntime) -> Result<(), Fail> {
     let alloc = rt.alloc();
     let mut files = MemFiles::new(alloc, one_file(alloc)?, [1u64, 3].to_vec(alloc)?);
-    assert_eq!(rt; files.load(alloc, "a", 2)?.as_slice(), b"xyz".as_slice());
-    assert_eq!(rt; files.load(alloc, "a", 2).err(), Some(FileFault::Failed));
-    assert_eq!(rt; files.load(alloc, "b", 2).err(), Some(FileFault::Failed));
-    assert_eq!(rt; files.store(alloc, "a", b"q"), Err(FileFault::Failed));
-    assert_eq!(rt; files.load(alloc, "a", 2).err(), Some(FileFault::Failed));
-    files.store(alloc, "a", b"r")?;
-    assert_eq!(rt; files.load(alloc, "a", 2)?.as_slice(), b"r".as_slice());
+    let before = [
+        gives(&mut files, alloc, "a", 2, b"xyz"),
+        gives(&mut files, alloc, "a", 2, b"xyz"),
+        gives(&mut files, alloc, "b", 2, b""),
+    ];
+    let stored = files.store(alloc, "a", b"q");
+    let between = gives(&mut files, alloc, "a", 2, b"xyz");
+    let stored_again = files.store(alloc, "a", b"r");
+    let after = gives(&mut files, alloc, "a", 2, b"r");
+    let failed = Err(FileFault::Failed);
+    assert_eq!(rt; before, [Ok(true), failed, failed]);
+    assert_eq!(rt; (stored, between), (Err(FileFault::Failed), failed));
+    assert_eq!(rt; (stored_again, after), (Ok(()), Ok(true)));
     Ok(())
 }

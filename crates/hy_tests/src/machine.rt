@@ -123,6 +123,15 @@ const SUM: [Instr; 5] = [
     Instr::Return { word: 0 },
 ];
 
+// How these instructions halt, with three words and an output that takes two pieces, and what is then in that output.
+fn run_alone(alloc: Global, instrs: &[Instr]) -> Result<(Halt, Pieces), NoMemory> {
+    let object = object_of(alloc, instrs, 3)?;
+    let mut out = no_pieces(alloc, 2);
+    let mut machine = Machine::start(alloc, 3)?;
+    let halt = machine.run_to_halt(alloc, &object, instrs, &mut out);
+    Ok((halt, out))
+}
+
 #[test]
 fn programs_halt_as_they_must(rt: HostRuntime) -> Result<(), Fail> {
     let alloc = rt.alloc();
@@ -161,10 +170,8 @@ fn programs_halt_as_they_must(rt: HostRuntime) -> Result<(), Fail> {
         ),
     ];
     for (instrs, want, written) in rows {
-        let object = object_of(alloc, instrs, 3)?;
-        let mut out = no_pieces(alloc, 2);
-        let mut machine = Machine::start(alloc, 3)?;
-        assert_eq!(rt; machine.run_to_halt(alloc, &object, instrs, &mut out), want);
+        let (halt, out) = run_alone(alloc, instrs)?;
+        assert_eq!(rt; halt, want);
         assert_eq!(rt; out.bytes.as_slice(), written.as_bytes());
     }
     Ok(())

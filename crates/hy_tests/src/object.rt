@@ -1,5 +1,7 @@
 // Bytes, and what they decode to: an object, whose bytes are these again, or the place where they are bad. Bytes are written
 // in base 16, a row a line.
+ghost use Rattle.hy_object.specs.Grammar.{IsInGrammar};
+
 use hy_base::NoMemory;
 use hy_object::{Instr, Object, ObjectFault, decode, encode};
 use std::alloc::Global;
@@ -341,21 +343,39 @@ fn put_bytes(out: &mut Vec<u8>, text: &str) -> Result<(), NoMemory> {
     Ok(())
 }
 
+fn bytes_of(alloc: Global, parts: [&str; 3]) -> Result<Vec<u8>, NoMemory> {
+    let mut bytes = Vec::new(alloc);
+    for part in parts {
+        put_bytes(&mut bytes, part)?;
+    }
+    Ok(bytes)
+}
+
 fn first_instr(object: &Object) -> Option<Instr> {
     object.funs.get(0)?.code.get(0).copied()
 }
 
 // `object`, or its first instruction where that is wanted, or the place where the bytes are bad.
 fn shown(alloc: Global, bytes: &[u8], instr: bool) -> Result<String, NoMemory> {
-    let object = match decode(alloc, bytes) {
-        Ok(object) => object,
-        Err(ObjectFault::Bad(place)) => return Ok(format!(in alloc; "{place}")?),
-        Err(ObjectFault::NoMemory) => return Err(NoMemory),
-    };
-    if encode(alloc, &object)?.as_slice() != bytes {
+    match decode(alloc, bytes) {
+        Ok(object) => shown_object(alloc, &object, bytes, instr),
+        Err(ObjectFault::Bad(place)) => Ok(format!(in alloc; "{place}")?),
+        Err(ObjectFault::NoMemory) => Err(NoMemory),
+    }
+}
+
+fn shown_object(
+    alloc: Global,
+    object: &Object,
+    bytes: &[u8],
+    instr: bool,
+) -> Result<String, NoMemory>
+    requires { IsInGrammar object.now }
+{
+    if encode(alloc, object)?.as_slice() != bytes {
         return Ok(String::from_str(alloc, "other bytes")?);
     }
-    match first_instr(&object) {
+    match first_instr(object) {
         Some(first) if instr => Ok(format!(in alloc; "{first:?}")?),
         _ => Ok(String::from_str(alloc, "object")?),
     }
@@ -375,10 +395,7 @@ struct Table {
 fn first_wrong(alloc: Global, table: &Table) -> Result<String, NoMemory> {
     for row in table.rows.lines() {
         if let Some((text, wanted)) = row.split_once(" = ") {
-            let mut bytes = Vec::new(alloc);
-            put_bytes(&mut bytes, table.before)?;
-            put_bytes(&mut bytes, text)?;
-            put_bytes(&mut bytes, table.behind)?;
+            let bytes = bytes_of(alloc, [table.before, text, table.behind])?;
             let found = shown(alloc, bytes.as_slice(), table.instr)?;
             if found.as_str() != wanted {
                 return Ok(format!(in alloc; "{text} = {found}")?);

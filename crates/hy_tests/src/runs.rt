@@ -47,6 +47,12 @@ fn source_of(alloc: Global, parts: [&str; 2]) -> Result<PlainSource, Fail> {
     Ok(PlainSource::new(bytes))
 }
 
+fn number_of(alloc: Global, parts: [&str; 2]) -> Result<Option<i64>, Fail> {
+    let mut input = source_of(alloc, parts)?;
+    let mut lines = Lines::new(alloc)?;
+    Ok(lines.read(&mut input)?)
+}
+
 #[test]
 fn lines_are_numbers_or_none(rt: HostRuntime) -> Result<(), Fail> {
     let alloc = rt.alloc();
@@ -54,12 +60,17 @@ fn lines_are_numbers_or_none(rt: HostRuntime) -> Result<(), Fail> {
         let (line, want) = row.split_once(" = ").ok_or("a row has two parts")?;
         let want = want.parse::<i64>().ok();
         for end in ["\n", ""] {
-            let mut input = source_of(alloc, [line, end])?;
-            let mut lines = Lines::new(alloc)?;
-            assert_eq!(rt; lines.read(&mut input)?, want);
+            assert_eq!(rt; number_of(alloc, [line, end])?, want);
         }
     }
     Ok(())
+}
+
+fn zeros_and_seven(alloc: Global, zeros: usize, behind: &str) -> Result<PlainSource, Fail> {
+    let mut bytes = vec![in alloc; b'0'; zeros]?;
+    bytes.push(b'7')?;
+    bytes.extend_from_slice(behind.as_bytes())?;
+    Ok(PlainSource::new(bytes))
 }
 
 #[test]
@@ -74,17 +85,14 @@ fn a_line_has_at_most_4096_bytes(rt: HostRuntime) -> Result<(), Fail> {
         (4097, "\n5\n", [None, Some(7), Some(5)]),
     ];
     for (zeros, behind, want) in rows {
-        let mut bytes = vec![in alloc; b'0'; zeros]?;
-        bytes.push(b'7')?;
-        bytes.extend_from_slice(behind.as_bytes())?;
-        let mut input = PlainSource::new(bytes);
+        let mut input = zeros_and_seven(alloc, zeros, behind)?;
         let mut lines = Lines::new(alloc)?;
         let numbers = [
-            lines.read(&mut input)?,
-            lines.read(&mut input)?,
-            lines.read(&mut input)?,
+            lines.read(&mut input),
+            lines.read(&mut input),
+            lines.read(&mut input),
         ];
-        assert_eq!(rt; numbers, want);
+        assert_eq!(rt; numbers, want.map(Ok));
     }
     Ok(())
 }
@@ -135,8 +143,8 @@ fn an_input_that_fails_is_told(rt: HostRuntime) -> Result<(), Fail> {
     for (failing, calls) in [(0, 1), (1, 2), (2, 3)] {
         let mut input = source_failing_at(alloc, "12\n", failing)?;
         let mut lines = Lines::new(alloc)?;
-        assert_eq!(rt; lines.read(&mut input), Err(Failed));
-        assert_eq!(rt; input.calls, calls);
+        let answer = lines.read(&mut input);
+        assert_eq!(rt; (answer, input.calls), (Err(Failed), calls));
     }
     Ok(())
 }
@@ -148,8 +156,8 @@ fn an_input_that_has_ended_is_asked_no_more(rt: HostRuntime) -> Result<(), Fail>
     let mut lines = Lines::new(alloc)?;
     for (want, calls) in [(Some(12), 3), (Some(3), 5), (None, 5), (None, 5)] {
         input.faults = 0;
-        assert_eq!(rt; lines.read(&mut input), Ok(want));
-        assert_eq!(rt; input.calls, calls);
+        let answer = lines.read(&mut input);
+        assert_eq!(rt; (answer, input.calls), (Ok(want), calls));
     }
     Ok(())
 }
@@ -167,8 +175,8 @@ fn words_are_printed_in_one_piece_each(rt: HostRuntime) -> Result<(), Fail> {
     ];
     for (shown, word, failing, want, written) in rows {
         let mut out = MemSink::new(alloc, [(failing, 2u32)].to_vec(alloc)?, 99)?;
-        assert_eq!(rt; put_line(alloc, shown, word, &mut out), want);
-        assert_eq!(rt; out.bytes(), written.as_bytes());
+        let answer = put_line(alloc, shown, word, &mut out);
+        assert_eq!(rt; (answer, out.bytes()), (want, written.as_bytes()));
     }
     Ok(())
 }

@@ -25,15 +25,13 @@ fn main_of(alloc: Global) -> Fun
 #[test]
 fn a_block_is_kept_until_it_is_freed(rt: HostRuntime) -> Result<(), Fail> {
     let mut blocks = Blocks::new(rt.alloc());
-    assert!(rt; !blocks.is_live(3));
+    let live_at_first = blocks.is_live(3);
     let cells = vec![in rt.alloc(); Cell::Word(-5), Cell::Unset, Cell::Unset]?;
     blocks.take(3, cells).map_err(|_: NoMemory| "no memory")?;
-    assert_eq!(rt;
-        blocks.cells(3),
-        Some([Cell::Word(-5), Cell::Unset, Cell::Unset].as_slice())
-    );
+    let kept = blocks.cells(3) == Some([Cell::Word(-5), Cell::Unset, Cell::Unset].as_slice());
     blocks.free(3);
-    assert!(rt; blocks.cells(3).is_none());
+    let gone = blocks.cells(3).is_none();
+    assert_eq!(rt; (live_at_first, kept, gone), (false, true, true));
     Ok(())
 }
 
@@ -43,11 +41,9 @@ fn a_word_is_stored(rt: HostRuntime) -> Result<(), Fail> {
     let Ok(mut store) = Store::begin(rt.alloc(), &main) else {
         return Err(Fail::from("no memory"));
     };
-    assert_eq!(rt; store.constant(&main, 1, 7), Ok(()));
-    assert_eq!(rt;
-        store.blocks.cells(0),
-        Some([Cell::Unset, Cell::Word(7)].as_slice())
-    );
+    let answer = store.constant(&main, 1, 7);
+    let stored = store.blocks.cells(0) == Some([Cell::Unset, Cell::Word(7)].as_slice());
+    assert_eq!(rt; (answer, stored), (Ok(()), true));
     Ok(())
 }
 
@@ -58,9 +54,9 @@ fn a_word_is_lent(rt: HostRuntime) -> Result<(), Fail> {
         return Err(Fail::from("no memory"));
     };
     let place = Place { base: 0, offset: 1 };
-    assert_eq!(rt; store.lend(&main, 0, place, 1, Way::Write), Ok(()));
-    assert_eq!(rt; store.frames.slot(0, 0), Slot::Filled(0));
-    assert_eq!(rt; store.counts.opened, 1);
+    let answer = store.lend(&main, 0, place, 1, Way::Write);
+    let after = (store.frames.slot(0, 0), store.counts.opened);
+    assert_eq!(rt; (answer, after), (Ok(()), (Slot::Filled(0), 1)));
     Ok(())
 }
 
@@ -70,15 +66,18 @@ fn an_access_is_closed(rt: HostRuntime) -> Result<(), Fail> {
     let Ok(mut store) = Store::begin(rt.alloc(), &main) else {
         return Err(Fail::from("no memory"));
     };
-    assert!(rt; !store.was_lent(&main, 0, 1, 0));
+    let lent_at_first = store.was_lent(&main, 0, 1, 0);
     let place = Place { base: 0, offset: 1 };
     let Ok(()) = store.lend(&main, 0, place, 1, Way::Write) else {
         return Err(Fail::from("no memory"));
     };
-    assert_eq!(rt; store.close(&main, 0, false), Ok(()));
-    assert_eq!(rt; store.frames.slot(0, 0), Slot::Empty);
-    assert_eq!(rt; store.counts.closed, 1);
-    assert!(rt; store.opened.find(0).is_none());
+    let answer = store.close(&main, 0, false);
+    let gone = store.opened.find(0).is_none();
+    let after = (store.frames.slot(0, 0), store.counts.closed, gone);
+    assert_eq!(rt;
+        (lent_at_first, answer, after),
+        (false, Ok(()), (Slot::Empty, 1, true))
+    );
     Ok(())
 }
 
@@ -108,16 +107,15 @@ fn an_unset_word_is_stuck(rt: HostRuntime) -> Result<(), Fail> {
 
 #[test]
 fn numbers_trap_where_they_do_not_fit(rt: HostRuntime) -> Result<(), Fail> {
-    assert_eq!(rt;
-        calculate(Operation::Add, i64::MAX, 1),
-        Err(TrapKind::Overflow)
-    );
-    assert_eq!(rt;
-        calculate(Operation::Rem, i64::MIN, -1),
-        Err(TrapKind::Overflow)
-    );
-    assert_eq!(rt; calculate(Operation::Div, 7, 0), Err(TrapKind::Divide));
-    assert_eq!(rt; calculate(Operation::Div, -7, 2), Ok(-3));
-    assert_eq!(rt; calculate(Operation::Rem, -7, 2), Ok(-1));
+    let rows = [
+        (Operation::Add, i64::MAX, 1, Err(TrapKind::Overflow)),
+        (Operation::Rem, i64::MIN, -1, Err(TrapKind::Overflow)),
+        (Operation::Div, 7, 0, Err(TrapKind::Divide)),
+        (Operation::Div, -7, 2, Ok(-3)),
+        (Operation::Rem, -7, 2, Ok(-1)),
+    ];
+    for (operation, a, b, want) in rows {
+        assert_eq!(rt; calculate(operation, a, b), want);
+    }
     Ok(())
 }
