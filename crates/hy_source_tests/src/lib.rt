@@ -17,6 +17,8 @@ mod parser_statements;
 #[cfg(test)]
 mod parser_texts;
 #[cfg(test)]
+mod rows;
+#[cfg(test)]
 mod scope;
 #[cfg(test)]
 mod tree;

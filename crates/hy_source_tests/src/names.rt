@@ -1,71 +1,6 @@
-// Source texts, and where the rules on names are broken. In a row « and » stand around the refused span, and are no part of the
-// source. `docs/NAMES.md` has the rules.
-use hy_base::Fault;
-use hy_front::LONGEST;
-use hy_lexer::{lex, spans_are_apart};
-use hy_parser::parse;
-use hy_scope::resolve;
-use std::alloc::{AllocError, Global};
+// Source texts, and where the rules on names are broken. `rows.rt` says how a row is written, and `docs/NAMES.md` has the rules.
+use crate::rows::check;
 use std::test::Fail;
-
-fn resolved(alloc: Global, source: &[u8]) -> Result<(), Fault> {
-    if source.len() > LONGEST as usize {
-        return Err(Fault::NoMemory);
-    }
-    let tokens = lex(alloc, source)?;
-    spans_are_apart();
-    let tree = parse(alloc, &tokens, source.len() as u32)?;
-    resolve(alloc, &tree)?;
-    Ok(())
-}
-
-// `ok`, or the rule that is broken with its span.
-fn shown(alloc: Global, source: &[u8]) -> Result<String, AllocError> {
-    match resolved(alloc, source) {
-        Ok(()) => String::from_str(alloc, "ok"),
-        Err(Fault::Refused(rule, span)) => {
-            let name = rule.name();
-            let from = span.from;
-            let to = span.to;
-            format!(in alloc; "{name} {from}-{to}")
-        }
-        Err(Fault::NoMemory) => Err(AllocError),
-    }
-}
-
-// What a row wants, and its source.
-fn wanted(alloc: Global, answer: &str, text: &str) -> Result<(String, Vec<u8>), AllocError> {
-    let mut source = Vec::new(alloc);
-    let Some((before, rest)) = text.split_once("«") else {
-        source.extend_from_slice(text.as_bytes())?;
-        return Ok((String::from_str(alloc, answer)?, source));
-    };
-    let (inside, behind) = rest.split_once("»").unwrap_or((rest, ""));
-    source.extend_from_slice(before.as_bytes())?;
-    let from = source.len();
-    source.extend_from_slice(inside.as_bytes())?;
-    let to = source.len();
-    source.extend_from_slice(behind.as_bytes())?;
-    Ok((format!(in alloc; "{answer} {from}-{to}")?, source))
-}
-
-// The rows that are answered otherwise, each with its answer.
-fn wrong(alloc: Global, rows: &str) -> Result<String, AllocError> {
-    let mut text = String::new(alloc);
-    for row in rows.lines() {
-        if let Some((answer, rest)) = row.split_once(" = ") {
-            let (want, source) = wanted(alloc, answer, rest)?;
-            let found = shown(alloc, source.as_slice())?;
-            if found.as_str() != want.as_str() {
-                text.push_str(row)?;
-                text.push_str(" : ")?;
-                text.push_str(found.as_str())?;
-                text.push_str("; ")?;
-            }
-        }
-    }
-    Ok(text)
-}
 
 const PROGRAMS: &str = "
 N5 = «»
@@ -178,35 +113,25 @@ N1 = fun main() { print(«z», (1).foo) }
 
 #[test]
 fn the_main_function(rt: HostRuntime) -> Result<(), Fail> {
-    let text = wrong(rt.alloc(), PROGRAMS)?;
-    assert_eq!(rt; text.as_str(), "");
-    Ok(())
+    check(&rt, rt.alloc(), PROGRAMS, true)
 }
 
 #[test]
 fn names_in_blocks(rt: HostRuntime) -> Result<(), Fail> {
-    let text = wrong(rt.alloc(), BLOCKS)?;
-    assert_eq!(rt; text.as_str(), "");
-    Ok(())
+    check(&rt, rt.alloc(), BLOCKS, true)
 }
 
 #[test]
 fn names_declared_twice(rt: HostRuntime) -> Result<(), Fail> {
-    let text = wrong(rt.alloc(), LISTS)?;
-    assert_eq!(rt; text.as_str(), "");
-    Ok(())
+    check(&rt, rt.alloc(), LISTS, true)
 }
 
 #[test]
 fn names_of_types(rt: HostRuntime) -> Result<(), Fail> {
-    let text = wrong(rt.alloc(), TYPES)?;
-    assert_eq!(rt; text.as_str(), "");
-    Ok(())
+    check(&rt, rt.alloc(), TYPES, true)
 }
 
 #[test]
 fn names_of_members_and_values(rt: HostRuntime) -> Result<(), Fail> {
-    let text = wrong(rt.alloc(), VALUES)?;
-    assert_eq!(rt; text.as_str(), "");
-    Ok(())
+    check(&rt, rt.alloc(), VALUES, true)
 }

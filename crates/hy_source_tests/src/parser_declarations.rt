@@ -1,9 +1,6 @@
 //! Declarations of texts.
-ghost use Rattle.std.specs.Prelude.{◌≤◌, length};
-
-use hy_base::{Fault, Rule, Span};
-use hy_lexer::{lex, spans_are_apart};
-use hy_parser::parse;
+use crate::rows::{fault_text, parsed, push_if_wrong};
+use hy_base::Span;
 use hy_tree::{Callable, CallableKind, Decl, DeclKind, Label, Member, MemberKind, Mode, Program};
 use std::alloc::{AllocError, Global};
 use std::test::Fail;
@@ -210,69 +207,59 @@ fn decl_word(alloc: Global, decl: &Decl) -> Result<String, AllocError> {
     }
 }
 
-fn push_decl(text: &mut String, alloc: Global, decl: &Decl) -> Result<(), AllocError> {
+fn push_decl_head(text: &mut String, alloc: Global, decl: &Decl) -> Result<(), AllocError> {
     let word = decl_word(alloc, decl)?;
-    push_head(
-        text,
-        alloc,
-        decl.public,
-        word.as_str(),
-        decl.tokens,
-        decl.span,
-    )?;
+    let word = word.as_str();
+    push_head(text, alloc, decl.public, word, decl.tokens, decl.span)
+}
+
+fn push_parts(text: &mut String, alloc: Global, decl: &Decl) -> Result<(), AllocError> {
     match &decl.kind {
-        DeclKind::Callable(callable) => push_callable(text, callable, alloc)?,
-        DeclKind::Product(product) => push_members(text, alloc, product.members.as_slice())?,
-        DeclKind::Trait(definition) => push_members(text, alloc, definition.members.as_slice())?,
-        DeclKind::Conformance(conformance) => {
-            push_members(text, alloc, conformance.members.as_slice())?;
-        }
+        DeclKind::Callable(callable) => push_callable(text, callable, alloc),
+        DeclKind::Product(product) => push_members(text, alloc, product.members.as_slice()),
+        DeclKind::Trait(definition) => push_members(text, alloc, definition.members.as_slice()),
+        DeclKind::Conformance(part) => push_members(text, alloc, part.members.as_slice()),
     }
+}
+
+fn push_decl(text: &mut String, alloc: Global, decl: &Decl) -> Result<(), AllocError> {
+    push_decl_head(text, alloc, decl)?;
+    push_parts(text, alloc, decl)?;
     text.push_str(";")
 }
 
 fn program_text(alloc: Global, program: &Program) -> Result<String, AllocError> {
     let mut text = String::new(alloc);
     for decl in program.decls.as_slice() {
-        text.push_str(" ")?;
+        if !text.is_empty() {
+            text.push_str(" ")?;
+        }
         push_decl(&mut text, alloc, decl)?;
     }
     Ok(text)
 }
 
-fn refusal_text(alloc: Global, rule: Rule, span: Span) -> Result<String, AllocError> {
-    let name = rule.name();
-    let from = span.from;
-    let to = span.to;
-    format!(in alloc; " {name} {from}-{to}")
-}
-
-fn parsed(alloc: Global, source: &[u8]) -> Result<Program, Fault>
-    requires { length source.now ≤ 1048576 }
-{
-    let tokens = lex(alloc, source)?;
-    spans_are_apart();
-    parse(alloc, tokens.as_slice(), source.len() as u32)
-}
-
 fn shown(alloc: Global, source: &str) -> Result<String, AllocError> {
-    if source.len() > 1_048_576 {
-        return Err(AllocError);
-    }
     match parsed(alloc, source.as_bytes()) {
         Ok(program) => program_text(alloc, &program),
-        Err(Fault::Refused(rule, span)) => refusal_text(alloc, rule, span),
-        Err(Fault::NoMemory) => Err(AllocError),
+        Err(fault) => fault_text(alloc, fault),
     }
+}
+
+fn push_row(wrong: &mut String, alloc: Global, row: &str) -> Result<(), AllocError> {
+    let Some((source, wanted)) = row.split_once(" =>") else {
+        return Ok(());
+    };
+    let found = shown(alloc, source)?;
+    push_if_wrong(wrong, row, found.as_str(), wanted.trim_start())
 }
 
 #[test]
 fn declarations(rt: HostRuntime) -> Result<(), Fail> {
+    let mut wrong = String::new(rt.alloc());
     for row in ROWS.lines() {
-        if let Some((source, wanted)) = row.split_once(" =>") {
-            let text = shown(rt.alloc(), source)?;
-            assert_eq!(rt; text.as_str(), wanted);
-        }
+        push_row(&mut wrong, rt.alloc(), row)?;
     }
+    assert_eq!(rt; wrong.as_str(), "");
     Ok(())
 }

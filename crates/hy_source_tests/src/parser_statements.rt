@@ -1,10 +1,12 @@
 //! Blocks over the tokens of texts: the statements that each has, or the token at which the text begins none.
+use crate::rows::push_if_wrong;
 use hy_base::Span;
 use hy_lexer::{Token, lex};
 use hy_phrases::{Stop, Tokens};
 use hy_statements::read_block;
 use hy_tree::{Block, StmtKind};
 use std::alloc::{AllocError, Global};
+use std::process::Abort;
 use std::test::Fail;
 
 /// A row has a block, with `|` for the end of a line, and behind `=>` its statements, or the number of the token that cannot
@@ -104,13 +106,17 @@ const SPANS: &str = "
 { yield &x } => 2-10.
 ";
 
-/// A row has a block, how many levels may be opened in it, and what comes of that.
-const LEVELS: [(&str, usize, &str); 4] = [
-    ("{ while x {} }", 0, "too deep at 3"),
-    ("{ while x {} }", 1, "While."),
-    ("{ if x { if y {} } }", 1, "too deep at 6"),
-    ("{ if x {} else {} }", 0, "too deep at 3"),
-];
+/// Rows as the first ones, with no level that may be opened.
+const NO_LEVEL: &str = "
+{ while x {} } => too deep at 3
+{ if x {} else {} } => too deep at 3
+";
+
+/// Rows as the first ones, with one level that may be opened.
+const ONE_LEVEL: &str = "
+{ while x {} } => While.
+{ if x { if y {} } } => too deep at 6
+";
 
 fn kind_text(kind: &StmtKind) -> &'static str {
     match kind {
@@ -180,55 +186,77 @@ fn tokens_of(alloc: Global, row: &str) -> Result<Vec<Token>, AllocError> {
     }
 }
 
-fn shown(alloc: Global, row: &str, levels: usize, spans: bool) -> Result<String, AllocError> {
-    let tokens = tokens_of(alloc, row)?;
-    match read(alloc, tokens.as_slice(), levels) {
-        Ok(block) => {
-            if spans {
-                spans_text(alloc, &block)
-            } else {
-                block_text(alloc, &block)
-            }
-        }
-        Err(Stop::NoMemory) => Err(AllocError),
-        Err(Stop::Unexpected(left)) => {
-            let at = tokens.len().saturating_sub(left);
+fn stop_text(alloc: Global, stop: Stop, count: usize) -> Result<String, AllocError> {
+    match stop {
+        Stop::NoMemory => Err(AllocError),
+        Stop::Unexpected(left) => {
+            let at = count.saturating_sub(left);
             format!(in alloc; "at {at}")
         }
-        Err(Stop::TooDeep(left)) => {
-            let at = tokens.len().saturating_sub(left);
+        Stop::TooDeep(left) => {
+            let at = count.saturating_sub(left);
             format!(in alloc; "too deep at {at}")
         }
     }
 }
 
+fn text_of(alloc: Global, block: &Block, spans: bool) -> Result<String, AllocError> {
+    if spans {
+        spans_text(alloc, block)
+    } else {
+        block_text(alloc, block)
+    }
+}
+
+fn shown(alloc: Global, text: &str, levels: usize, spans: bool) -> Result<String, AllocError> {
+    let tokens = tokens_of(alloc, text)?;
+    match read(alloc, tokens.as_slice(), levels) {
+        Ok(block) => text_of(alloc, &block, spans),
+        Err(stop) => stop_text(alloc, stop, tokens.len()),
+    }
+}
+
+fn push_row(
+    wrong: &mut String,
+    alloc: Global,
+    row: &str,
+    levels: usize,
+    spans: bool,
+) -> Result<(), AllocError> {
+    let Some((text, wanted)) = row.split_once(" => ") else {
+        return Ok(());
+    };
+    let found = shown(alloc, text, levels, spans)?;
+    push_if_wrong(wrong, row, found.as_str(), wanted)
+}
+
+fn check(
+    rt: &impl Abort,
+    alloc: Global,
+    rows: &str,
+    levels: usize,
+    spans: bool,
+) -> Result<(), Fail> {
+    let mut wrong = String::new(alloc);
+    for row in rows.lines() {
+        push_row(&mut wrong, alloc, row, levels, spans)?;
+    }
+    assert_eq!(rt; wrong.as_str(), "");
+    Ok(())
+}
+
 #[test]
 fn statements(rt: HostRuntime) -> Result<(), Fail> {
-    for row in ROWS.lines() {
-        if let Some((text, wanted)) = row.split_once(" => ") {
-            let found = shown(rt.alloc(), text, 199, false)?;
-            assert_eq!(rt; found.as_str(), wanted, "{text}");
-        }
-    }
-    Ok(())
+    check(&rt, rt.alloc(), ROWS, 199, false)
 }
 
 #[test]
 fn places(rt: HostRuntime) -> Result<(), Fail> {
-    for row in SPANS.lines() {
-        if let Some((text, wanted)) = row.split_once(" => ") {
-            let found = shown(rt.alloc(), text, 199, true)?;
-            assert_eq!(rt; found.as_str(), wanted, "{text}");
-        }
-    }
-    Ok(())
+    check(&rt, rt.alloc(), SPANS, 199, true)
 }
 
 #[test]
 fn levels(rt: HostRuntime) -> Result<(), Fail> {
-    for (text, levels, wanted) in LEVELS {
-        let found = shown(rt.alloc(), text, levels, false)?;
-        assert_eq!(rt; found.as_str(), wanted, "{text}");
-    }
-    Ok(())
+    check(&rt, rt.alloc(), NO_LEVEL, 0, false)?;
+    check(&rt, rt.alloc(), ONE_LEVEL, 1, false)
 }

@@ -1,78 +1,8 @@
 // Source texts, and where the parser refuses them. In a row, `~` stands for a line feed, and « and » stand around the refused
 // span, at the end of the file where it is empty; none of the three is part of the source. `docs/GRAMMAR.md` has the grammar.
-use hy_base::{Fault, Rule, Span};
-use hy_lexer::{lex, spans_are_apart};
-use hy_parser::parse;
-use hy_tree::Program;
+use crate::rows::{answer, check, push_if_wrong, push_source};
 use std::alloc::{AllocError, Global};
 use std::test::Fail;
-
-fn tree(alloc: Global, source: &[u8]) -> Result<Program, Fault> {
-    let Ok(length) = u32::try_from(source.len()) else {
-        return Err(Fault::NoMemory);
-    };
-    if length > 1_048_576 {
-        return Err(Fault::NoMemory);
-    }
-    let tokens = lex(alloc, source)?;
-    spans_are_apart();
-    parse(alloc, tokens.as_slice(), length)
-}
-
-// `ok`, or the rule that is broken with its span.
-fn shown(alloc: Global, source: &[u8]) -> Result<String, AllocError> {
-    match tree(alloc, source) {
-        Ok(_) => String::from_str(alloc, "ok"),
-        Err(Fault::Refused(rule, span)) => {
-            let name = rule.name();
-            let from = span.from;
-            let to = span.to;
-            format!(in alloc; "{name} {from}-{to}")
-        }
-        Err(Fault::NoMemory) => Err(AllocError),
-    }
-}
-
-fn push_source(source: &mut Vec<u8>, text: &str) -> Result<(), AllocError> {
-    for byte in text.bytes() {
-        source.push(if byte == b'~' { b'\n' } else { byte })?;
-    }
-    Ok(())
-}
-
-// What a row wants, and its source.
-fn wanted(alloc: Global, answer: &str, text: &str) -> Result<(String, Vec<u8>), AllocError> {
-    let mut source = Vec::new(alloc);
-    let Some((before, rest)) = text.split_once("«") else {
-        push_source(&mut source, text)?;
-        return Ok((String::from_str(alloc, answer)?, source));
-    };
-    let (inside, behind) = rest.split_once("»").unwrap_or((rest, ""));
-    push_source(&mut source, before)?;
-    let from = source.len();
-    push_source(&mut source, inside)?;
-    let to = source.len();
-    push_source(&mut source, behind)?;
-    Ok((format!(in alloc; "{answer} {from}-{to}")?, source))
-}
-
-// The rows that are answered otherwise, each with its answer.
-fn wrong(alloc: Global, rows: &str) -> Result<String, AllocError> {
-    let mut text = String::new(alloc);
-    for row in rows.lines() {
-        if let Some((answer, rest)) = row.split_once(" = ") {
-            let (want, source) = wanted(alloc, answer, rest)?;
-            let found = shown(alloc, source.as_slice())?;
-            if found.as_str() != want.as_str() {
-                text.push_str(row)?;
-                text.push_str(" : ")?;
-                text.push_str(found.as_str())?;
-                text.push_str("; ")?;
-            }
-        }
-    }
-    Ok(text)
-}
 
 const FILES: &str = "
 ok = 
@@ -386,23 +316,24 @@ ok = // Accounts in a table, and transfers read from input.~trait Priced { fun f
 ok = type C: Copyable { var v: Array<Int>~  subscript at(_ i: Int): Int {~    let { yield v[i] }~    inout { yield &v[i] }~  }~}~fun f1(_ c: inout C) -> Int {~  inout x = &c.at[1]~  x += 1~  return x.copy()~}~fun main() {~  var c = C(v: [0, 0, 0, 0, 0, 0, 0, 0])~  var s = 0~  s += f1(&c)~  print(s)~  let d = c.copy()~  print(d.at[0])~}~
 ";
 
-// What is repeated: the text before it, it, how often, the text behind it, and the answer.
-const DEEP: [(&str, &str, u32, &str, &str); 14] = [
-    ("fun main() { var x = ", "(", 200, "1", "P2 220-221"),
-    ("fun main() { var x = ", "(", 200, "", "P1 221-221"),
-    ("fun main() { var x = ", "(", 199, "1", "P1 221-221"),
-    ("fun main() { var x = ", "(", 201, "1", "P2 220-221"),
-    ("fun main() { var x = ", "-", 199, "1 }", "ok"),
-    ("fun main() { var x = ", "-", 200, "1 }", "P2 220-221"),
-    ("fun main() { var x = ", "[", 200, "1 }", "P2 220-221"),
-    ("fun f(a: ", "Array<", 200, "Int", "P2 1208-1209"),
-    ("fun f(a: ", "(", 200, "", "P1 209-209"),
-    ("fun f() { ", "while x { ", 199, "y", "P1 2001-2001"),
-    ("fun f() { ", "while x { ", 200, "y", "P2 2008-2009"),
-    ("fun f() { x = ", "if ", 200, "y", "P2 611-613"),
-    ("fun f() { x = y", " + (1)", 1000, " }", "ok"),
-    ("fun f() { x", ".y[1](2)", 1000, " }", "ok"),
-];
+// Each row has its answer, the text before what is repeated, what is repeated, how often, and the text behind it, with `@` between
+// the last four.
+const DEEP: &str = "
+P2 220-221 = fun main() { var x = @(@200@1
+P1 221-221 = fun main() { var x = @(@200@
+P1 221-221 = fun main() { var x = @(@199@1
+P2 220-221 = fun main() { var x = @(@201@1
+ok = fun main() { var x = @-@199@1 }
+P2 220-221 = fun main() { var x = @-@200@1 }
+P2 220-221 = fun main() { var x = @[@200@1 }
+P2 1208-1209 = fun f(a: @Array<@200@Int
+P1 209-209 = fun f(a: @(@200@
+P1 2001-2001 = fun f() { @while x { @199@y
+P2 2008-2009 = fun f() { @while x { @200@y
+P2 611-613 = fun f() { x = @if @200@y
+ok = fun f() { x = y@ + (1)@1000@ }
+ok = fun f() { x@.y[1](2)@1000@ }
+";
 
 fn repeated(
     alloc: Global,
@@ -420,96 +351,91 @@ fn repeated(
     Ok(source)
 }
 
+fn deep_source(alloc: Global, row: &str) -> Result<Vec<u8>, AllocError> {
+    let (before, rest) = row.split_once("@").unwrap_or((row, ""));
+    let (text, rest) = rest.split_once("@").unwrap_or((rest, ""));
+    let (times, behind) = rest.split_once("@").unwrap_or((rest, ""));
+    match times.parse::<u32>() {
+        Ok(times) => repeated(alloc, before, text, times, behind),
+        Err(_) => Err(AllocError),
+    }
+}
+
+fn push_deep(wrong: &mut String, alloc: Global, row: &str) -> Result<(), AllocError> {
+    let Some((want, text)) = row.split_once(" = ") else {
+        return Ok(());
+    };
+    let source = deep_source(alloc, text)?;
+    let found = answer(alloc, source.as_slice(), false)?;
+    push_if_wrong(wrong, row, found.as_str(), want)
+}
+
 #[test]
 fn the_levels(rt: HostRuntime) -> Result<(), Fail> {
-    for (before, text, times, behind, want) in DEEP {
-        let source = repeated(rt.alloc(), before, text, times, behind)?;
-        let found = shown(rt.alloc(), source.as_slice())?;
-        assert_eq!(rt; found.as_str(), want, "{before}{text}");
+    let mut wrong = String::new(rt.alloc());
+    for row in DEEP.lines() {
+        push_deep(&mut wrong, rt.alloc(), row)?;
     }
+    assert_eq!(rt; wrong.as_str(), "");
     Ok(())
 }
 
 #[test]
 fn the_file(rt: HostRuntime) -> Result<(), Fail> {
-    let text = wrong(rt.alloc(), FILES)?;
-    assert_eq!(rt; text.as_str(), "");
-    Ok(())
+    check(&rt, rt.alloc(), FILES, false)
 }
 
 #[test]
 fn the_functions(rt: HostRuntime) -> Result<(), Fail> {
-    let text = wrong(rt.alloc(), FUNCTIONS)?;
-    assert_eq!(rt; text.as_str(), "");
-    Ok(())
+    check(&rt, rt.alloc(), FUNCTIONS, false)
 }
 
 #[test]
 fn the_parameters(rt: HostRuntime) -> Result<(), Fail> {
-    let text = wrong(rt.alloc(), PARAMETERS)?;
-    assert_eq!(rt; text.as_str(), "");
-    Ok(())
+    check(&rt, rt.alloc(), PARAMETERS, false)
 }
 
 #[test]
 fn the_written_types(rt: HostRuntime) -> Result<(), Fail> {
-    let text = wrong(rt.alloc(), WRITTEN_TYPES)?;
-    assert_eq!(rt; text.as_str(), "");
-    Ok(())
+    check(&rt, rt.alloc(), WRITTEN_TYPES, false)
 }
 
 #[test]
 fn the_subscripts(rt: HostRuntime) -> Result<(), Fail> {
-    let text = wrong(rt.alloc(), SUBSCRIPTS)?;
-    assert_eq!(rt; text.as_str(), "");
-    Ok(())
+    check(&rt, rt.alloc(), SUBSCRIPTS, false)
 }
 
 #[test]
 fn the_products(rt: HostRuntime) -> Result<(), Fail> {
-    let text = wrong(rt.alloc(), PRODUCTS)?;
-    assert_eq!(rt; text.as_str(), "");
-    Ok(())
+    check(&rt, rt.alloc(), PRODUCTS, false)
 }
 
 #[test]
 fn the_traits(rt: HostRuntime) -> Result<(), Fail> {
-    let text = wrong(rt.alloc(), TRAITS)?;
-    assert_eq!(rt; text.as_str(), "");
-    Ok(())
+    check(&rt, rt.alloc(), TRAITS, false)
 }
 
 #[test]
 fn the_conformances(rt: HostRuntime) -> Result<(), Fail> {
-    let text = wrong(rt.alloc(), CONFORMANCES)?;
-    assert_eq!(rt; text.as_str(), "");
-    Ok(())
+    check(&rt, rt.alloc(), CONFORMANCES, false)
 }
 
 #[test]
 fn the_statements(rt: HostRuntime) -> Result<(), Fail> {
-    let text = wrong(rt.alloc(), STATEMENTS)?;
-    assert_eq!(rt; text.as_str(), "");
-    Ok(())
+    check(&rt, rt.alloc(), STATEMENTS, false)
 }
 
 #[test]
 fn the_separators(rt: HostRuntime) -> Result<(), Fail> {
-    let text = wrong(rt.alloc(), SEPARATORS)?;
-    assert_eq!(rt; text.as_str(), "");
-    Ok(())
+    check(&rt, rt.alloc(), SEPARATORS, false)
 }
 
 #[test]
 fn the_expressions(rt: HostRuntime) -> Result<(), Fail> {
-    let text = wrong(rt.alloc(), EXPRESSIONS)?;
-    assert_eq!(rt; text.as_str(), "");
-    Ok(())
+    check(&rt, rt.alloc(), EXPRESSIONS, false)
 }
 
 #[test]
 fn the_programs(rt: HostRuntime) -> Result<(), Fail> {
-    let text = wrong(rt.alloc(), PROGRAMS)?;
-    assert_eq!(rt; text.as_str(), "");
-    Ok(())
+    check(&rt, rt.alloc(), PROGRAMS, false)
 }
