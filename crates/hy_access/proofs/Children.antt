@@ -48,7 +48,12 @@ module _ (parent : ℕ → Option ℕ) (n : ℕ) where
   pub is_child : (i : ℕ) (xs : List ℕ) → 0 < times i xs → parent i ≡ Some n → 0 < times i (children parent n xs)
   is_child i [] there is = absurd (omega arith)
   is_child i (j ∷ xs) there is = elim (cases_eq j i) [
-    | inl same ↦ omega (arith, ap (times i) (children-child j xs (ap parent same ∙ is)), ap (λ k. times i (k ∷ children parent n xs)) same, times-same i (children parent n xs))
+    | inl same ↦ omega (
+      arith,
+      ap (times i) (children-child j xs (ap parent same ∙ is)),
+      ap (λ k. times i (k ∷ children parent n xs)) same,
+      times-same i (children parent n xs),
+    )
     | inr differs ↦
         let further = is_child i xs (omega (arith, there, times-other i j xs differs)) is in
         elim (cases_some (parent j) n) [
@@ -62,14 +67,17 @@ module _ (parent : ℕ → Option ℕ) (n : ℕ) where
 
   pub no_children : (xs : List ℕ) → ((i : ℕ) → 0 < times i xs → parent i ≢ Some n) → children parent n xs ≡ []
   no_children [] away = refl
-  no_children (i ∷ xs) away = children-other i xs (away i (omega (arith, times-same i xs))) ∙ no_children xs (λ j there. away j (omega (arith, there, times-le j i xs)))
+  no_children (i ∷ xs) away = children-other i xs (away i (omega (arith, times-same i xs)))
+      ∙ no_children xs (λ j there. away j (omega (arith, there, times-le j i xs)))
 
   pub children-dropped : (x : ℕ) (xs : List ℕ) → children parent n (dropped x xs) ≡ dropped x (children parent n xs)
   children-dropped x [] = refl
   children-dropped x (i ∷ xs) = elim (cases_some (parent i) n) [
     | inl is ↦ elim (cases_eq i x) [
       | inl same ↦ rw (children-child i xs is) (rw same (rw (dropped-same x xs, dropped-same x (children parent n xs)) (children-dropped x xs)))
-      | inr differs ↦ rw (children-child i xs is, dropped-other x i xs differs, dropped-other x i (children parent n xs) differs) (children-child i (dropped x xs) is ∙ ap (λ ys. i ∷ ys) (children-dropped x xs))
+      | inr differs ↦
+          rw (children-child i xs is, dropped-other x i xs differs, dropped-other x i (children parent n xs) differs) (children-child i (dropped x xs) is
+          ∙ ap (λ ys. i ∷ ys) (children-dropped x xs))
     ]
     | inr away ↦ elim (cases_eq i x) [
       | inl same ↦ rw (children-other i xs away) (rw same (rw (dropped-same x xs) (children-dropped x xs)))

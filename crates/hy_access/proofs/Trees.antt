@@ -4,16 +4,25 @@ use Rattle.std.proofs.lemmas.Bool.{cases_eq}
 use Rattle.slab.specs.Slab.{Slab, get}
 use Rattle.hy_links.specs.Chains.{head, Chain, times, dropped, AreApart}
 use Rattle.hy_links.specs.Linked.{look, before_at, after_at, newest_first, AreLinked, IsPushed, IsUnlinked}
-use Rattle.hy_links.proofs.Chains.{begins, head-times, kept, put_in_front, taken_out, neighbours, Neighbours, times-other, times-dropped_other, times-dropped_same, dropped-absent}
-use Rattle.hy_links.proofs.Linked.{zero_or_more, none_or_some, cases_some, stays, elsewhere, sets, used, Alike, alike_self, alike_changed, alike_then, puts_told, unlinks_told, started_so}
+use Rattle.hy_links.proofs.Chains.{begins, head-times, kept, put_in_front, taken_out, neighbours, Neighbours, times-other, times-dropped_other}
+use Rattle.hy_links.proofs.Chains.{times-dropped_same, dropped-absent}
+use Rattle.hy_links.proofs.Linked.{zero_or_more, none_or_some, cases_some, stays, elsewhere, sets, used, Alike, alike_self, alike_changed, alike_then}
+use Rattle.hy_links.proofs.Linked.{puts_told, unlinks_told, started_so}
 use Rattle.hy_access.specs.declared.slots.Slot.{Slot}
-use Rattle.hy_access.specs.Forest.{order, slot_of_id, parent_at, child_at, older_at, younger_at, children, IsForest, youngest_of, with_before, with_after, with_older, with_younger, with_child, IsLent, where_none, first_of_parent, IsClosed}
-use Rattle.hy_access.proofs.Children.{children-child, children-other, times-children, has_parent, is_child, apart-children, no_children, children-dropped, children-same, behind-same, parent_there, behind-dropped}
+use Rattle.hy_access.specs.Forest.{order, slot_of_id, parent_at, child_at, older_at, younger_at, children, IsForest, youngest_of, with_before, with_after}
+use Rattle.hy_access.specs.Forest.{with_older, with_younger, with_child, IsLent, where_none, first_of_parent, IsClosed}
+use Rattle.hy_access.proofs.Children.{children-child, children-other, times-children, has_parent, is_child, apart-children, no_children, children-dropped}
+use Rattle.hy_access.proofs.Children.{children-same, behind-same, parent_there, behind-dropped}
 
 -- an access is lent
-module _ (old new : Slab Slot) (newest : Option ℕ) (slot : Slot) (x : ℕ) (forest : IsForest old newest) (lent : IsLent old new slot x) (is_before : slot.links.before ≡ newest) (no_after : slot.links.after ≡ None) (is_older : slot.siblings.before ≡ youngest_of old (slot_of_id slot.parent)) (no_younger : slot.siblings.after ≡ None) (no_child : slot.child ≡ None) (parent_live : (p : ℕ) → slot_of_id slot.parent ≡ Some p → 0 < times p (newest_first order old newest)) where
+module _ (old new : Slab Slot) (newest : Option ℕ) (slot : Slot) (x : ℕ) (forest : IsForest old newest) (lent : IsLent old new slot x)
+    (is_before : slot.links.before ≡ newest) (no_after : slot.links.after ≡ None)
+    (is_older : slot.siblings.before ≡ youngest_of old (slot_of_id slot.parent)) (no_younger : slot.siblings.after ≡ None) (no_child : slot.child ≡ None)
+    (parent_live : (p : ℕ) → slot_of_id slot.parent ≡ Some p → 0 < times p (newest_first order old newest)) where
   -- what is found in the slots by a look that none of the three changes touches
-  untouched : {Y : Type 0} (find : Slot → Option Y) → ((s : Slot) → find (with_after (Some x) s) ≡ find s) → ((s : Slot) → find (with_younger (Some x) s) ≡ find s) → ((s : Slot) → find (with_child (Some x) s) ≡ find s) → (i : ℕ) → look find (get new i) ≡ look find (get lent.filled i)
+  untouched : {Y : Type 0} (find : Slot → Option Y) → ((s : Slot) → find (with_after (Some x) s) ≡ find s)
+      → ((s : Slot) → find (with_younger (Some x) s) ≡ find s) → ((s : Slot) → find (with_child (Some x) s) ≡ find s) → (i : ℕ)
+      → look find (get new i) ≡ look find (get lent.filled i)
   untouched find after younger child i =
       stays lent.beside new (slot_of_id slot.parent) (with_child (Some x)) lent.child find child i
       ∙ stays lent.behind lent.beside slot.siblings.before (with_younger (Some x)) lent.youngest find younger i
@@ -37,21 +46,25 @@ module _ (old new : Slab Slot) (newest : Option ℕ) (slot : Slot) (x : ℕ) (fo
         (alike_changed lent.beside new (slot_of_id slot.parent) (with_child (Some x)) (λ s. s.links.after) lent.child (λ s. refl)))
         is_before no_after
         (λ i is.
-        let there = head-times i (newest_first order old newest) (sym (begins (before_at order old) (after_at order old) None newest (newest_first order old newest) forest.linked.chain) ∙ is) in
+        let there = head-times i (newest_first order old newest)
+        (sym (begins (before_at order old) (after_at order old) None newest (newest_first order old newest) forest.linked.chain) ∙ is) in
         (free_slot i there, forest.linked.in_use i there));
     holds = untouched (λ s. Some (order.held x s)) (λ s. refl) (λ s. refl) (λ s. refl) x ∙ ap (look (λ s. Some (order.held x s))) lent.fills.changed;
-    others = λ i differs. untouched (λ s. Some (order.held i s)) (λ s. refl) (λ s. refl) (λ s. refl) i ∙ ap (look (λ s. Some (order.held i s))) (lent.fills.others i differs);
+    others = λ i differs. untouched (λ s. Some (order.held i s)) (λ s. refl) (λ s. refl) (λ s. refl) i
+        ∙ ap (look (λ s. Some (order.held i s))) (lent.fills.others i differs);
     one_more = lent.child.as_many ∙ lent.youngest.as_many ∙ lent.newest.as_many ∙ lent.one_more;
   }
 
   parent_kept : (i : ℕ) → i ≢ x → parent_at new i ≡ parent_at old i
-  parent_kept i differs = untouched (λ s. slot_of_id s.parent) (λ s. refl) (λ s. refl) (λ s. refl) i ∙ ap (look (λ s. slot_of_id s.parent)) (lent.fills.others i differs)
+  parent_kept i differs = untouched (λ s. slot_of_id s.parent) (λ s. refl) (λ s. refl) (λ s. refl) i
+      ∙ ap (look (λ s. slot_of_id s.parent)) (lent.fills.others i differs)
 
   parent_new : parent_at new x ≡ slot_of_id slot.parent
   parent_new = untouched (λ s. slot_of_id s.parent) (λ s. refl) (λ s. refl) (λ s. refl) x ∙ ap (look (λ s. slot_of_id s.parent)) lent.fills.changed
 
   older_kept : (i : ℕ) → i ≢ x → older_at new i ≡ older_at old i
-  older_kept i differs = untouched (λ s. s.siblings.before) (λ s. refl) (λ s. refl) (λ s. refl) i ∙ ap (look (λ s. s.siblings.before)) (lent.fills.others i differs)
+  older_kept i differs = untouched (λ s. s.siblings.before) (λ s. refl) (λ s. refl) (λ s. refl) i
+      ∙ ap (look (λ s. s.siblings.before)) (lent.fills.others i differs)
 
   younger_away : (i : ℕ) → slot.siblings.before ≢ Some i → younger_at new i ≡ look (λ s. s.siblings.after) (get lent.filled i)
   younger_away i away =
@@ -74,14 +87,16 @@ module _ (old new : Slab Slot) (newest : Option ℕ) (slot : Slot) (x : ℕ) (fo
       ∙ forest.linked.in_use p there in
       sets lent.beside new (slot_of_id slot.parent) (with_child (Some x)) lent.child (λ s. s.child) (Some x) (λ s. refl) p is key
 
-  sibling_in : (o : Option ℕ) (i : ℕ) → ((p : ℕ) → o ≡ Some p → 0 < times p (newest_first order old newest)) → youngest_of old o ≡ Some i → (p : ℕ) × (o ≡ Some p) × (0 < times i (children (parent_at old) p (newest_first order old newest)))
+  sibling_in : (o : Option ℕ) (i : ℕ) → ((p : ℕ) → o ≡ Some p → 0 < times p (newest_first order old newest)) → youngest_of old o ≡ Some i → (p : ℕ)
+      × (o ≡ Some p) × (0 < times i (children (parent_at old) p (newest_first order old newest)))
   sibling_in None i live is = absurd (cc)
   sibling_in (Some p) i live is =
       let family = children (parent_at old) p (newest_first order old newest) in
       (p, refl, head-times i family (sym (begins (older_at old) (younger_at old) None (child_at old p) family (forest.siblings p (live p refl))) ∙ is))
 
   -- the sibling that is next to the new one has the same parent
-  older_sibling : (i : ℕ) → slot.siblings.before ≡ Some i → (p : ℕ) × (slot_of_id slot.parent ≡ Some p) × (0 < times i (children (parent_at old) p (newest_first order old newest)))
+  older_sibling : (i : ℕ) → slot.siblings.before ≡ Some i → (p : ℕ) × (slot_of_id slot.parent ≡ Some p)
+      × (0 < times i (children (parent_at old) p (newest_first order old newest)))
   older_sibling i is = sibling_in (slot_of_id slot.parent) i parent_live (sym is_older ∙ is)
 
   not_before_itself : slot.siblings.before ≢ Some x
@@ -89,9 +104,11 @@ module _ (old new : Slab Slot) (newest : Option ℕ) (slot : Slot) (x : ℕ) (fo
       let sibling = older_sibling x is in
       free_slot x (omega (arith, sibling.2, times-children (parent_at old) sibling.0 x (newest_first order old newest))) refl
 
-  younger_kept : (i : ℕ) → 0 < times i (newest_first order old newest) → ((p : ℕ) → slot_of_id slot.parent ≡ Some p → parent_at old i ≢ Some p) → younger_at new i ≡ younger_at old i
+  younger_kept : (i : ℕ) → 0 < times i (newest_first order old newest) → ((p : ℕ) → slot_of_id slot.parent ≡ Some p → parent_at old i ≢ Some p)
+      → younger_at new i ≡ younger_at old i
   younger_kept i there other =
-      let away : slot.siblings.before ≢ Some i = λ is. let sibling = older_sibling i is in other sibling.0 sibling.1 (has_parent (parent_at old) sibling.0 i (newest_first order old newest) sibling.2) in
+      let away : slot.siblings.before ≢ Some i = λ is. let sibling = older_sibling i is in
+      other sibling.0 sibling.1 (has_parent (parent_at old) sibling.0 i (newest_first order old newest) sibling.2) in
       younger_away i away ∙ ap (look (λ s. s.siblings.after)) (lent.fills.others i (free_slot i there))
 
   family_same : (n : ℕ) → children (parent_at new) n (newest_first order old newest) ≡ children (parent_at old) n (newest_first order old newest)
@@ -101,12 +118,14 @@ module _ (old new : Slab Slot) (newest : Option ℕ) (slot : Slot) (x : ℕ) (fo
   in_family n i there = omega (arith, there, times-children (parent_at old) n i (newest_first order old newest))
 
   -- the children of a parent with one more
-  grown : (p : ℕ) → slot_of_id slot.parent ≡ Some p → Chain (older_at new) (younger_at new) None (child_at new p) (children (parent_at new) p (x ∷ newest_first order old newest))
+  grown : (p : ℕ) → slot_of_id slot.parent ≡ Some p
+      → Chain (older_at new) (younger_at new) None (child_at new p) (children (parent_at new) p (x ∷ newest_first order old newest))
   grown p is =
       let family = children (parent_at old) p (newest_first order old newest) in
       let chain = forest.siblings p (parent_live p is) in
       let none : times x family ≡ 0 = no_times in
-      let puts = puts_told old lent.filled lent.behind lent.beside new x slot (child_at old p) (with_younger (Some x)) (λ s. s.siblings.before) (λ s. s.siblings.after) lent.fills
+      let puts = puts_told old lent.filled lent.behind lent.beside new x slot (child_at old p) (with_younger (Some x)) (λ s. s.siblings.before)
+      (λ s. s.siblings.after) lent.fills
       (alike_changed lent.filled lent.behind slot.links.before (with_after (Some x)) (λ s. s.siblings.before) lent.newest (λ s. refl))
       (alike_changed lent.filled lent.behind slot.links.before (with_after (Some x)) (λ s. s.siblings.after) lent.newest (λ s. refl))
       (used lent.filled lent.behind slot.links.before (with_after (Some x)) lent.newest)
@@ -117,7 +136,8 @@ module _ (old new : Slab Slot) (newest : Option ℕ) (slot : Slot) (x : ℕ) (fo
       (λ i at. let there = in_family p i (head-times i family (sym (begins (older_at old) (younger_at old) None (child_at old p) family chain) ∙ at)) in
       (free_slot i there, forest.linked.in_use i there)) in
       rw (child_here p is, children-child (parent_at new) p x (newest_first order old newest) (parent_new ∙ is), family_same p)
-      (put_in_front (older_at old) (younger_at old) (older_at new) (younger_at new) (child_at old p) x family chain (apart-children (parent_at old) p (newest_first order old newest) forest.linked.apart) none puts)
+      (put_in_front (older_at old) (younger_at old) (older_at new) (younger_at new) (child_at old p) x family chain
+      (apart-children (parent_at old) p (newest_first order old newest) forest.linked.apart) none puts)
     where
       older : slot.siblings.before ≡ child_at old p
       older = is_older ∙ ap (youngest_of old) is
@@ -129,21 +149,24 @@ module _ (old new : Slab Slot) (newest : Option ℕ) (slot : Slot) (x : ℕ) (fo
       ]
 
   -- the children of any other
-  stayed : (n : ℕ) → 0 < times n (newest_first order old newest) → slot_of_id slot.parent ≢ Some n → Chain (older_at new) (younger_at new) None (child_at new n) (children (parent_at new) n (x ∷ newest_first order old newest))
+  stayed : (n : ℕ) → 0 < times n (newest_first order old newest) → slot_of_id slot.parent ≢ Some n
+      → Chain (older_at new) (younger_at new) None (child_at new n) (children (parent_at new) n (x ∷ newest_first order old newest))
   stayed n there away =
       let family = children (parent_at old) n (newest_first order old newest) in
       let same_child : child_at new n ≡ child_at old n = child_away n away ∙ ap (look (λ s. s.child)) (lent.fills.others n (free_slot n there)) in
       rw (same_child, children-other (parent_at new) n x (newest_first order old newest) (λ is. away (sym parent_new ∙ is)), family_same n)
       (kept (older_at old) (younger_at old) (older_at new) (younger_at new) None (child_at old n) family (forest.siblings n there)
       (λ i child. older_kept i (free_slot i (in_family n i child)))
-      (λ i child. younger_kept i (in_family n i child) (λ p is mother. let same : n ≡ p = cc (has_parent (parent_at old) n i (newest_first order old newest) child, mother) in away (is ∙ ap (λ k. Some k) (sym same)))))
+      (λ i child. younger_kept i (in_family n i child) (λ p is mother. let same : n ≡ p =
+      cc (has_parent (parent_at old) n i (newest_first order old newest) child, mother) in away (is ∙ ap (λ k. Some k) (sym same)))))
 
   -- the new one has no children
   alone : Chain (older_at new) (younger_at new) None (child_at new x) (children (parent_at new) x (x ∷ newest_first order old newest))
   alone =
       let away : slot_of_id slot.parent ≢ Some x = λ is. free_slot x (parent_live x is) refl in
       let no_family : children (parent_at old) x (newest_first order old newest) ≡ [] =
-      no_children (parent_at old) x (newest_first order old newest) (λ i there is. free_slot x (parent_there (parent_at old) (newest_first order old newest) forest.behind i x there is) refl) in
+      no_children (parent_at old) x (newest_first order old newest)
+      (λ i there is. free_slot x (parent_there (parent_at old) (newest_first order old newest) forest.behind i x there is) refl) in
       rw (children-other (parent_at new) x x (newest_first order old newest) (λ is. away (sym parent_new ∙ is)), family_same x, no_family)
       (child_away x away ∙ ap (look (λ s. s.child)) lent.fills.changed ∙ no_child)
 
@@ -152,7 +175,8 @@ module _ (old new : Slab Slot) (newest : Option ℕ) (slot : Slot) (x : ℕ) (fo
 
   root_new : parent_at new x ≡ None → (older_at new x ≡ None) × (younger_at new x ≡ None)
   root_new none = (
-    untouched (λ s. s.siblings.before) (λ s. refl) (λ s. refl) (λ s. refl) x ∙ ap (look (λ s. s.siblings.before)) lent.fills.changed ∙ no_siblings (sym parent_new ∙ none),
+    untouched (λ s. s.siblings.before) (λ s. refl) (λ s. refl) (λ s. refl) x ∙ ap (look (λ s. s.siblings.before)) lent.fills.changed
+        ∙ no_siblings (sym parent_new ∙ none),
     younger_away x not_before_itself ∙ ap (look (λ s. s.siblings.after)) lent.fills.changed ∙ no_younger,
   )
 
@@ -161,7 +185,10 @@ module _ (old new : Slab Slot) (newest : Option ℕ) (slot : Slot) (x : ℕ) (fo
       let start = started_so order old new newest x (order.held x slot) forest.linked pushed in
       record {
         linked = start.linked;
-        behind = rw start.order (λ p is. parent_live p (sym parent_new ∙ is), behind-same (parent_at old) (parent_at new) (newest_first order old newest) (λ i there. parent_kept i (free_slot i there)) forest.behind);
+        behind = rw start.order (
+          λ p is. parent_live p (sym parent_new ∙ is),
+          behind-same (parent_at old) (parent_at new) (newest_first order old newest) (λ i there. parent_kept i (free_slot i there)) forest.behind,
+        );
         roots = rw start.order (λ n there none. elim (cases_eq x n) [
           | inl same ↦
               let P : ℕ → Type 0 = λ k. (older_at new k ≡ None) × (younger_at new k ≡ None) in
@@ -178,7 +205,8 @@ module _ (old new : Slab Slot) (newest : Option ℕ) (slot : Slot) (x : ℕ) (fo
           | inl is ↦ grown n is
           | inr away ↦ elim (cases_eq x n) [
             | inl same ↦
-                let P : ℕ → Type 0 = λ k. Chain (older_at new) (younger_at new) None (child_at new k) (children (parent_at new) k (x ∷ newest_first order old newest)) in
+                let P : ℕ → Type 0 =
+                λ k. Chain (older_at new) (younger_at new) None (child_at new k) (children (parent_at new) k (x ∷ newest_first order old newest)) in
                 subst P same alone
             | inr differs ↦ stayed n (omega (arith, there, times-other n x (newest_first order old newest) differs)) away
           ]
@@ -186,9 +214,14 @@ module _ (old new : Slab Slot) (newest : Option ℕ) (slot : Slot) (x : ℕ) (fo
       }
 
 -- an access without children is closed
-module _ (old new : Slab Slot) (newest left : Option ℕ) (slot : Slot) (x : ℕ) (forest : IsForest old newest) (closed : IsClosed old new slot x) (there : 0 < times x (newest_first order old newest)) (childless : (i : ℕ) → 0 < times i (newest_first order old newest) → parent_at old i ≢ Some x) where
+module _ (old new : Slab Slot) (newest left : Option ℕ) (slot : Slot) (x : ℕ) (forest : IsForest old newest) (closed : IsClosed old new slot x)
+    (there : 0 < times x (newest_first order old newest)) (childless : (i : ℕ) → 0 < times i (newest_first order old newest)
+    → parent_at old i ≢ Some x) where
   -- what is found in the slots by a look that none of the five changes touches
-  same_look : {Y : Type 0} (find : Slot → Option Y) → ((s : Slot) → find (with_after slot.links.after s) ≡ find s) → ((s : Slot) → find (with_before slot.links.before s) ≡ find s) → ((s : Slot) → find (with_younger slot.siblings.after s) ≡ find s) → ((s : Slot) → find (with_older slot.siblings.before s) ≡ find s) → ((s : Slot) → find (with_child slot.siblings.before s) ≡ find s) → (i : ℕ) → i ≢ x → look find (get new i) ≡ look find (get old i)
+  same_look : {Y : Type 0} (find : Slot → Option Y) → ((s : Slot) → find (with_after slot.links.after s) ≡ find s)
+      → ((s : Slot) → find (with_before slot.links.before s) ≡ find s) → ((s : Slot) → find (with_younger slot.siblings.after s) ≡ find s)
+      → ((s : Slot) → find (with_older slot.siblings.before s) ≡ find s) → ((s : Slot) → find (with_child slot.siblings.before s) ≡ find s) → (i : ℕ)
+      → i ≢ x → look find (get new i) ≡ look find (get old i)
   same_look find after before younger older child i differs =
       stays closed.younger_told new (first_of_parent slot) (with_child slot.siblings.before) closed.child find child i
       ∙ stays closed.older_told closed.younger_told slot.siblings.after (with_older slot.siblings.before) closed.younger find older i
@@ -198,7 +231,9 @@ module _ (old new : Slab Slot) (newest left : Option ℕ) (slot : Slot) (x : ℕ
       ∙ ap (look find) (closed.empties.others i differs)
 
   -- the last three changes leave the order of lending
-  order_alike : (find : Slot → Option ℕ) → ((s : Slot) → find (with_younger slot.siblings.after s) ≡ find s) → ((s : Slot) → find (with_older slot.siblings.before s) ≡ find s) → ((s : Slot) → find (with_child slot.siblings.before s) ≡ find s) → Alike closed.linked new find
+  order_alike : (find : Slot → Option ℕ) → ((s : Slot) → find (with_younger slot.siblings.after s) ≡ find s)
+      → ((s : Slot) → find (with_older slot.siblings.before s) ≡ find s) → ((s : Slot) → find (with_child slot.siblings.before s) ≡ find s)
+      → Alike closed.linked new find
   order_alike find younger older child =
       alike_then closed.linked closed.older_told new find
       (alike_changed closed.linked closed.older_told slot.siblings.before (with_younger slot.siblings.after) find closed.older younger)
@@ -207,7 +242,8 @@ module _ (old new : Slab Slot) (newest left : Option ℕ) (slot : Slot) (x : ℕ
       (alike_changed closed.younger_told new (first_of_parent slot) (with_child slot.siblings.before) find closed.child child))
 
   -- the first two leave the siblings
-  siblings_alike : (find : Slot → Option ℕ) → ((s : Slot) → find (with_after slot.links.after s) ≡ find s) → ((s : Slot) → find (with_before slot.links.before s) ≡ find s) → Alike closed.emptied closed.linked find
+  siblings_alike : (find : Slot → Option ℕ) → ((s : Slot) → find (with_after slot.links.after s) ≡ find s)
+      → ((s : Slot) → find (with_before slot.links.before s) ≡ find s) → Alike closed.emptied closed.linked find
   siblings_alike find after before =
       alike_then closed.emptied closed.joined closed.linked find
       (alike_changed closed.emptied closed.joined slot.links.before (with_after slot.links.after) find closed.before after)
@@ -220,11 +256,13 @@ module _ (old new : Slab Slot) (newest left : Option ℕ) (slot : Slot) (x : ℕ
 
   pub unlinked : IsUnlinked order old new x
   unlinked =
-      let near = neighbours (before_at order old) (after_at order old) newest x (newest_first order old newest) forest.linked.chain forest.linked.apart there in
+      let near = neighbours (before_at order old) (after_at order old) newest x
+      (newest_first order old newest) forest.linked.chain forest.linked.apart there in
       let is_before : before_at order old x ≡ slot.links.before = ap (look (λ s. s.links.before)) closed.was in
       let is_after : after_at order old x ≡ slot.links.after = ap (look (λ s. s.links.after)) closed.was in
       record {
-        unlinks = unlinks_told old closed.emptied closed.emptied closed.joined closed.linked new x slot (with_after slot.links.after) (with_before slot.links.before) (λ s. s.links.before) (λ s. s.links.after) closed.was closed.empties
+        unlinks = unlinks_told old closed.emptied closed.emptied closed.joined closed.linked new x slot (with_after slot.links.after)
+            (with_before slot.links.before) (λ s. s.links.before) (λ s. s.links.after) closed.was closed.empties
             (alike_self closed.emptied (λ s. s.links.before)) (alike_self closed.emptied (λ s. s.links.after)) (λ i. refl)
             closed.before closed.after (λ s. refl) (λ s. refl) (λ s. refl) (λ s. refl)
             (order_alike (λ s. s.links.before) (λ s. refl) (λ s. refl) (λ s. refl))
@@ -232,7 +270,15 @@ module _ (old new : Slab Slot) (newest left : Option ℕ) (slot : Slot) (x : ℕ
             (λ i is. (near.next_other i (is_before ∙ is), forest.linked.in_use i (near.next_there i (is_before ∙ is))))
             (λ i is. (near.back_other i (is_after ∙ is), forest.linked.in_use i (near.back_there i (is_after ∙ is))));
         others = λ i differs. same_look (λ s. Some (order.held i s)) (λ s. refl) (λ s. refl) (λ s. refl) (λ s. refl) (λ s. refl) i differs;
-        one_less = omega (arith, closed.one_less, closed.child.as_many, closed.younger.as_many, closed.older.as_many, closed.after.as_many, closed.before.as_many);
+        one_less = omega (
+          arith,
+          closed.one_less,
+          closed.child.as_many,
+          closed.younger.as_many,
+          closed.older.as_many,
+          closed.after.as_many,
+          closed.before.as_many,
+        );
       }
 
   is_older : older_at old x ≡ slot.siblings.before
@@ -261,7 +307,8 @@ module _ (old new : Slab Slot) (newest left : Option ℕ) (slot : Slot) (x : ℕ
   near_family : (p : ℕ) → parent_at old x ≡ Some p → Neighbours (older_at old) (younger_at old) x (children (parent_at old) p (newest_first order old newest))
   near_family p is =
       neighbours (older_at old) (younger_at old) (child_at old p) x (children (parent_at old) p (newest_first order old newest))
-      (forest.siblings p (parent_there (parent_at old) (newest_first order old newest) forest.behind x p there is)) (family_apart p) (is_child (parent_at old) p x (newest_first order old newest) there is)
+      (forest.siblings p (parent_there (parent_at old) (newest_first order old newest) forest.behind x p there is)) (family_apart p)
+      (is_child (parent_at old) p x (newest_first order old newest) there is)
 
   older_is : (i : ℕ) → slot.siblings.before ≡ Some i → (o : Option ℕ) → parent_at old x ≡ o → IsSibling i
   older_is i is None root = absurd (cc (sym (forest.roots x there root).0 ∙ is_older ∙ is))
@@ -289,7 +336,8 @@ module _ (old new : Slab Slot) (newest left : Option ℕ) (slot : Slot) (x : ℕ
         lives = of_family p i member;
       }
 
-  emptied_same : {Y : Type 0} (find : Slot → Option Y) → ((s : Slot) → find (with_after slot.links.after s) ≡ find s) → ((s : Slot) → find (with_before slot.links.before s) ≡ find s) → (i : ℕ) → i ≢ x → look find (get closed.linked i) ≡ look find (get old i)
+  emptied_same : {Y : Type 0} (find : Slot → Option Y) → ((s : Slot) → find (with_after slot.links.after s) ≡ find s)
+      → ((s : Slot) → find (with_before slot.links.before s) ≡ find s) → (i : ℕ) → i ≢ x → look find (get closed.linked i) ≡ look find (get old i)
   emptied_same find after before i differs =
       stays closed.joined closed.linked slot.links.after (with_before slot.links.before) closed.after find before i
       ∙ stays closed.emptied closed.joined slot.links.before (with_after slot.links.after) closed.before find after i
@@ -316,7 +364,8 @@ module _ (old new : Slab Slot) (newest left : Option ℕ) (slot : Slot) (x : ℕ
       ∙ emptied_same (λ s. s.child) (λ s. refl) (λ s. refl) i differs
 
   child_stays : (i : ℕ) → i ≢ x → first_of_parent slot ≢ Some i → child_at new i ≡ child_at old i
-  child_stays i differs away = elsewhere closed.younger_told new (first_of_parent slot) (with_child slot.siblings.before) closed.child (λ s. s.child) i away ∙ child_before i differs
+  child_stays i differs away = elsewhere closed.younger_told new (first_of_parent slot) (with_child slot.siblings.before) closed.child (λ s. s.child) i away
+      ∙ child_before i differs
 
   used_told : (i : ℕ) → is_some (get closed.younger_told i) ≡ is_some (get closed.emptied i)
   used_told i =
@@ -342,40 +391,52 @@ module _ (old new : Slab Slot) (newest left : Option ℕ) (slot : Slot) (x : ℕ
 
   in_left : (i : ℕ) → 0 < times i (dropped x (newest_first order old newest)) → (i ≢ x) × (0 < times i (newest_first order old newest))
   in_left i left_there = elim (cases_eq i x) [
-    | inl same ↦ absurd (omega (arith, left_there, ap (λ k. times k (dropped x (newest_first order old newest))) same, times-dropped_same x (newest_first order old newest)))
+    | inl same ↦ absurd (omega (
+      arith,
+      left_there,
+      ap (λ k. times k (dropped x (newest_first order old newest))) same,
+      times-dropped_same x (newest_first order old newest),
+    ))
     | inr differs ↦ (differs, omega (arith, left_there, times-dropped_other x i (newest_first order old newest) differs))
   ]
 
   parent_stays : (i : ℕ) → i ≢ x → parent_at new i ≡ parent_at old i
   parent_stays i differs = same_look (λ s. slot_of_id s.parent) (λ s. refl) (λ s. refl) (λ s. refl) (λ s. refl) (λ s. refl) i differs
 
-  family_left : (n : ℕ) → children (parent_at new) n (dropped x (newest_first order old newest)) ≡ dropped x (children (parent_at old) n (newest_first order old newest))
+  family_left : (n : ℕ)
+      → children (parent_at new) n (dropped x (newest_first order old newest)) ≡ dropped x (children (parent_at old) n (newest_first order old newest))
   family_left n =
       children-same (parent_at old) (parent_at new) n (dropped x (newest_first order old newest)) (λ i member. parent_stays i (in_left i member).0)
       ∙ children-dropped (parent_at old) n x (newest_first order old newest)
 
   -- the family of the one that is closed
-  shrunk : (p : ℕ) → parent_at old x ≡ Some p → Chain (older_at new) (younger_at new) None (child_at new p) (children (parent_at new) p (dropped x (newest_first order old newest)))
+  shrunk : (p : ℕ) → parent_at old x ≡ Some p
+      → Chain (older_at new) (younger_at new) None (child_at new p) (children (parent_at new) p (dropped x (newest_first order old newest)))
   shrunk p mother =
       let family = children (parent_at old) p (newest_first order old newest) in
       let lives = parent_there (parent_at old) (newest_first order old newest) forest.behind x p there mother in
       let not_itself : p ≢ x = λ same. childless x there (mother ∙ ap (λ k. Some k) same) in
-      let unlinks = unlinks_told old closed.emptied closed.linked closed.older_told closed.younger_told new x slot (with_younger slot.siblings.after) (with_older slot.siblings.before) (λ s. s.siblings.before) (λ s. s.siblings.after) closed.was closed.empties
+      let unlinks =
+      unlinks_told old closed.emptied closed.linked closed.older_told closed.younger_told new x slot (with_younger slot.siblings.after)
+      (with_older slot.siblings.before) (λ s. s.siblings.before) (λ s. s.siblings.after) closed.was closed.empties
       (siblings_alike (λ s. s.siblings.before) (λ s. refl) (λ s. refl)) (siblings_alike (λ s. s.siblings.after) (λ s. refl) (λ s. refl)) used_linked
       closed.older closed.younger (λ s. refl) (λ s. refl) (λ s. refl) (λ s. refl)
       (alike_changed closed.younger_told new (first_of_parent slot) (with_child slot.siblings.before) (λ s. s.siblings.before) closed.child (λ s. refl))
       (alike_changed closed.younger_told new (first_of_parent slot) (with_child slot.siblings.before) (λ s. s.siblings.after) closed.child (λ s. refl))
       (λ i is. let sibling = older_is i is (Some p) mother in (sibling.is_other, forest.linked.in_use i sibling.lives))
       (λ i is. let sibling = younger_is i is (Some p) mother in (sibling.is_other, forest.linked.in_use i sibling.lives)) in
-      let rest = taken_out (older_at old) (younger_at old) (older_at new) (younger_at new) (child_at old p) x family (forest.siblings p lives) (family_apart p) (is_child (parent_at old) p x (newest_first order old newest) there mother) unlinks in
+      let rest = taken_out (older_at old) (younger_at old) (older_at new) (younger_at new) (child_at old p) x family (forest.siblings p lives)
+      (family_apart p) (is_child (parent_at old) p x (newest_first order old newest) there mother) unlinks in
       let begin : child_at new p ≡ head (dropped x family) = elim (none_or_some slot.siblings.after) [
         | inl none ↦ child_set p not_itself lives (first_none none ∙ sym is_parent ∙ mother) ∙ sym is_older ∙ sym (rest.first_left (is_younger ∙ none))
-        | inr some ↦ child_stays p not_itself (λ is. cc (sym (first_some slot.siblings.after (slot_of_id slot.parent) some) ∙ is)) ∙ sym (rest.first_stays (λ none. some (sym is_younger ∙ none)))
+        | inr some ↦ child_stays p not_itself (λ is. cc (sym (first_some slot.siblings.after (slot_of_id slot.parent) some) ∙ is))
+            ∙ sym (rest.first_stays (λ none. some (sym is_younger ∙ none)))
       ] in
       rw (family_left p, begin) rest.chain
 
   -- any other family
-  spared : (n : ℕ) → n ≢ x → 0 < times n (newest_first order old newest) → parent_at old x ≢ Some n → Chain (older_at new) (younger_at new) None (child_at new n) (children (parent_at new) n (dropped x (newest_first order old newest)))
+  spared : (n : ℕ) → n ≢ x → 0 < times n (newest_first order old newest) → parent_at old x ≢ Some n
+      → Chain (older_at new) (younger_at new) None (child_at new n) (children (parent_at new) n (dropped x (newest_first order old newest)))
   spared n differs lives away =
       let family = children (parent_at old) n (newest_first order old newest) in
       let same_child : child_at new n ≡ child_at old n =
@@ -396,7 +457,8 @@ module _ (old new : Slab Slot) (newest left : Option ℕ) (slot : Slot) (x : ℕ
   pub closed_so : AreLinked order new left → newest_first order new left ≡ dropped x (newest_first order old newest) → IsForest new left
   closed_so linked is_order = record {
     linked = linked;
-    behind = rw is_order (behind-same (parent_at old) (parent_at new) (dropped x (newest_first order old newest)) (λ i member. parent_stays i (in_left i member).0) (behind-dropped (parent_at old) x (newest_first order old newest) forest.behind childless));
+    behind = rw is_order (behind-same (parent_at old) (parent_at new) (dropped x (newest_first order old newest))
+        (λ i member. parent_stays i (in_left i member).0) (behind-dropped (parent_at old) x (newest_first order old newest) forest.behind childless));
     roots = rw is_order (λ n member none.
         let inner = in_left n member in
         let was = sym (parent_stays n inner.0) ∙ none in
@@ -412,7 +474,7 @@ module _ (old new : Slab Slot) (newest left : Option ℕ) (slot : Slot) (x : ℕ
         ]);
   }
 
--- want of memory leaves the forest as it is
+-- running out of memory leaves the forest as it is
 pub unchanged : (old new : Slab Slot) (newest : Option ℕ) → new.slots ≡ old.slots → IsForest old newest → IsForest new newest
 unchanged old new newest same forest =
     let P : List (Option Slot) → Type 0 = λ slots. IsForest (record { slots = slots; vacant_key = new.vacant_key; capacity = new.capacity }) newest in

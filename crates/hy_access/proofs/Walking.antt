@@ -17,7 +17,8 @@ module _ (slots : Slab Slot) (way : Way) (range : Range) where
   pub ended : (up at : Option ℕ) (left : ℕ) → at ≡ None → Clear (ForbidsAt slots way range) (parent_at slots) up (chain_from (before_at order slots) left at)
   ended up at left none = rw none (clear_none up left)
 
-  clear_free : (i : ℕ) → get slots i ≡ None → (up : Option ℕ) (left : ℕ) → Clear (ForbidsAt slots way range) (parent_at slots) up (chain_from (before_at order slots) left (Some i))
+  clear_free : (i : ℕ) → get slots i ≡ None → (up : Option ℕ) (left : ℕ)
+      → Clear (ForbidsAt slots way range) (parent_at slots) up (chain_from (before_at order slots) left (Some i))
   clear_free i free up zero = tt
   clear_free i free up (suc left) = (
     λ is. rest (parent_at slots i),
@@ -27,7 +28,8 @@ module _ (slots : Slab Slot) (way : Way) (range : Range) where
       rest : (next : Option ℕ) → Clear (ForbidsAt slots way range) (parent_at slots) next (chain_from (before_at order slots) left (before_at order slots i))
       rest next = ended next (before_at order slots i) left (ap (look (λ slot. slot.links.before)) free)
 
-  pub free : (up at : Option ℕ) (left i : ℕ) → at ≡ Some i → get slots i ≡ None → Clear (ForbidsAt slots way range) (parent_at slots) up (chain_from (before_at order slots) left at)
+  pub free : (up at : Option ℕ) (left i : ℕ) → at ≡ Some i → get slots i ≡ None
+      → Clear (ForbidsAt slots way range) (parent_at slots) up (chain_from (before_at order slots) left at)
   free up at left i is none = rw is (clear_free i none up left)
 
   module _ (at : Option ℕ) (i counter end : ℕ) (slot : Slot) (is : at ≡ Some i) (more : counter < end) (found : get slots i ≡ Some slot) where
@@ -44,13 +46,16 @@ module _ (slots : Slab Slot) (way : Way) (range : Range) where
     stands_not allows forbids = let P : Option Slot → Type 0 = ForbidsIf way range in allows (subst P found forbids)
 
     -- one that forbids
-    pub refused : (up : Option ℕ) → up ≢ Some i → Forbids way range slot → Clear (ForbidsAt slots way range) (parent_at slots) up (chain_from (before_at order slots) (end - counter) at) → ⊥
+    pub refused : (up : Option ℕ) → up ≢ Some i → Forbids way range slot
+        → Clear (ForbidsAt slots way range) (parent_at slots) up (chain_from (before_at order slots) (end - counter) at) → ⊥
     refused up away forbids clear =
         let P : List ℕ → Type 0 = Clear (ForbidsAt slots way range) (parent_at slots) up in
         ((subst P next_step clear).1 away).0 (stands forbids)
 
     -- the next of those through which the range is used
-    pub climbed : (up : Option ℕ) → up ≡ Some i → Clear (ForbidsAt slots way range) (parent_at slots) up (chain_from (before_at order slots) (end - counter) at) ↔ Clear (ForbidsAt slots way range) (parent_at slots) (slot_of_id slot.parent) (chain_from (before_at order slots) (end - (counter + 1)) slot.links.before)
+    pub climbed : (up : Option ℕ) → up ≡ Some i
+        → Clear (ForbidsAt slots way range) (parent_at slots) up (chain_from (before_at order slots) (end - counter) at) ↔ Clear (ForbidsAt slots way range)
+        (parent_at slots) (slot_of_id slot.parent) (chain_from (before_at order slots) (end - (counter + 1)) slot.links.before)
     climbed up here =
         let P : List ℕ → Type 0 = Clear (ForbidsAt slots way range) (parent_at slots) up in
         let rest = chain_from (before_at order slots) (end - (counter + 1)) slot.links.before in
@@ -61,7 +66,9 @@ module _ (slots : Slab Slot) (way : Way) (range : Range) where
         )
 
     -- any other that allows the use
-    pub passed : (up : Option ℕ) → up ≢ Some i → (Forbids way range slot → ⊥) → Clear (ForbidsAt slots way range) (parent_at slots) up (chain_from (before_at order slots) (end - counter) at) ↔ Clear (ForbidsAt slots way range) (parent_at slots) up (chain_from (before_at order slots) (end - (counter + 1)) slot.links.before)
+    pub passed : (up : Option ℕ) → up ≢ Some i → (Forbids way range slot → ⊥)
+        → Clear (ForbidsAt slots way range) (parent_at slots) up (chain_from (before_at order slots) (end - counter) at) ↔ Clear (ForbidsAt slots way range)
+        (parent_at slots) up (chain_from (before_at order slots) (end - (counter + 1)) slot.links.before)
     passed up away allows =
         let P : List ℕ → Type 0 = Clear (ForbidsAt slots way range) (parent_at slots) up in (
           λ clear. ((subst P next_step clear).1 away).1,

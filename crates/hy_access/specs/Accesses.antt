@@ -67,14 +67,14 @@ abbrev pub parent_of : List Access → AccId → Option AccId
 parent_of live id = look (λ one. one.parent) (access id live)
 
 -- from an access by way of parents to one of these: itself, its parent, the parent of that, and so on
-pub data Leads (live : List Access) : AccId → AccId → Type 0 where
-  itself : (id : AccId) → Leads live id id
-  above : (id parent to : AccId) → parent_of live id ≡ Some parent → Leads live parent to → Leads live id to
+pub data HasAncestor (live : List Access) : AccId → AccId → Type 0 where
+  itself : (id : AccId) → HasAncestor live id id
+  above : (id parent to : AccId) → parent_of live id ≡ Some parent → HasAncestor live parent to → HasAncestor live id to
 
 -- an access is the one through which memory is used, or one of the ancestors of that
 abbrev pub IsThrough : List Access → Option AccId → AccId → Type 0
 IsThrough live None id = ⊥
-IsThrough live (Some through) id = Leads live through id
+IsThrough live (Some through) id = HasAncestor live through id
 
 -- all live writing accesses that meet the range are this one and its ancestors
 abbrev pub MayRead : List Access → Range → Option AccId → Type 0

@@ -43,7 +43,7 @@ abbrev pub children : (ℕ → Option ℕ) → ℕ → List ℕ → List ℕ
 children parent n [] = []
 children parent n (i ∷ rest) = if is_some_of (parent i) n then i ∷ children parent n rest else children parent n rest
 
--- the parent of each is among those behind it
+-- the parent of each is among those after it
 abbrev pub Behind : (ℕ → Option ℕ) → List ℕ → Type 0
 Behind parent [] = Unit {0}
 Behind parent (i ∷ rest) = ((p : ℕ) → parent i ≡ Some p → 0 < times p rest) × Behind parent rest
@@ -54,7 +54,8 @@ pub record IsForest (slots : Slab Slot) (newest : Option ℕ) : Type 0 where
   pub linked : AreLinked order slots newest
   pub behind : Behind (parent_at slots) (newest_first order slots newest)
   pub roots : (n : ℕ) → 0 < times n (newest_first order slots newest) → parent_at slots n ≡ None → (older_at slots n ≡ None) × (younger_at slots n ≡ None)
-  pub siblings : (n : ℕ) → 0 < times n (newest_first order slots newest) → Chain (older_at slots) (younger_at slots) None (child_at slots n) (children (parent_at slots) n (newest_first order slots newest))
+  pub siblings : (n : ℕ) → 0 < times n (newest_first order slots newest)
+      → Chain (older_at slots) (younger_at slots) None (child_at slots n) (children (parent_at slots) n (newest_first order slots newest))
 
 abbrev pub with_before : Option ℕ → Slot → Slot
 with_before before slot = record slot { links = record slot.links { before = before } }
@@ -76,7 +77,7 @@ abbrev pub youngest_of : Slab Slot → Option ℕ → Option ℕ
 youngest_of slots None = None
 youngest_of slots (Some parent) = child_at slots parent
 
--- a slot is filled, and those that are now beside and above it are told
+-- a slot is filled, and those that are now beside and above it are linked to it
 pub record IsLent (old new : Slab Slot) (slot : Slot) (index : ℕ) : Type 0 where
   pub filled : Slab Slot
   pub behind : Slab Slot
@@ -97,7 +98,7 @@ where_none (Some i) other = None
 abbrev pub first_of_parent : Slot → Option ℕ
 first_of_parent slot = where_none slot.siblings.after (slot_of_id slot.parent)
 
--- a slot is given back, and those that were beside and above it are told
+-- a slot is given back, and those that were beside and above it are linked to each other
 pub record IsClosed (old new : Slab Slot) (slot : Slot) (index : ℕ) : Type 0 where
   pub emptied : Slab Slot
   pub joined : Slab Slot

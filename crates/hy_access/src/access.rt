@@ -2,14 +2,14 @@
 ghost use Rattle.std.specs.Prelude.{◌↔◌, IsTrue};
 ghost use Rattle.hy_access.specs.Accesses.{Meets};
 
-/// The name of a live access. It stands for that access until it is closed, and may be given to a later one then.
+/// The name of a live access. It names that access until it is closed, and may be given to a later one then.
 #[derive(Clone, Copy, Debug, PartialEq, Eq)]
 pub struct AccId {
     /// The place at which the access is kept.
     pub slot: u32,
 }
 
-/// Some cells of a block, one behind the other. It may be without cells.
+/// Some cells of a block, one after the other. It may be without cells.
 #[derive(Clone, Copy, Debug, PartialEq, Eq)]
 pub struct Range {
     /// The name of the block.

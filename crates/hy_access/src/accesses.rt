@@ -16,7 +16,7 @@ use std::marker::Model;
 
 /// The live accesses of a machine, in the order in which they were lent.
 ///
-/// A clause sees the list of them, each with its id, its own range, perhaps a header range, its way and its parent. An
+/// A contract sees the list of them, each with its id, its own range, perhaps a header range, its way and its parent. An
 /// access meets a range by its own or its header range. `lend`, `close`, `own` and `has_children` take a fixed number of
 /// steps; `may_read` and `may_write` go over all live accesses, a few comparisons each. Memory is taken by `lend` alone.
 /// The calls trust their conditions: none tests that an id is live.
@@ -81,7 +81,7 @@ impl Accesses {
     }
 
     /// Opens an access to a range, and perhaps to a header range, made from the access `parent`, or from the own frame
-    /// where none is given. It comes behind all others. The only refusal is want of memory, and changes nothing.
+    /// where none is given. It comes after all others. It fails only out of memory, and then nothing has changed.
     pub fn lend(
         &mut self,
         own: Range,

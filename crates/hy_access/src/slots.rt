@@ -23,7 +23,7 @@ pub struct Slot {
     pub parent: Option<AccId>,
 }
 
-// Tells the access at `at`, if there is one, which one was lent before it.
+// Sets which access was lent before the one at `at`, if there is one.
 fn set_before(slots: &mut Slab<Slot>, at: Option<u32>, before: Option<u32>)
     ensures { Changes slots.old slots.new at (with_before before) }
 {
@@ -34,7 +34,7 @@ fn set_before(slots: &mut Slab<Slot>, at: Option<u32>, before: Option<u32>)
     }
 }
 
-// Tells the access at `at`, if there is one, which one was lent after it.
+// Sets which access was lent after the one at `at`, if there is one.
 fn set_after(slots: &mut Slab<Slot>, at: Option<u32>, after: Option<u32>)
     ensures { Changes slots.old slots.new at (with_after after) }
 {
@@ -45,7 +45,7 @@ fn set_after(slots: &mut Slab<Slot>, at: Option<u32>, after: Option<u32>)
     }
 }
 
-// Tells the access at `at`, if there is one, which sibling is the next older.
+// Sets the next older sibling of the access at `at`, if there is one.
 fn set_older(slots: &mut Slab<Slot>, at: Option<u32>, older: Option<u32>)
     ensures { Changes slots.old slots.new at (with_older older) }
 {
@@ -56,7 +56,7 @@ fn set_older(slots: &mut Slab<Slot>, at: Option<u32>, older: Option<u32>)
     }
 }
 
-// Tells the access at `at`, if there is one, which sibling is the next younger.
+// Sets the next younger sibling of the access at `at`, if there is one.
 fn set_younger(slots: &mut Slab<Slot>, at: Option<u32>, younger: Option<u32>)
     ensures { Changes slots.old slots.new at (with_younger younger) }
 {
@@ -67,7 +67,7 @@ fn set_younger(slots: &mut Slab<Slot>, at: Option<u32>, younger: Option<u32>)
     }
 }
 
-// Tells the access at `at`, if there is one, which is its youngest child.
+// Sets the youngest child of the access at `at`, if there is one.
 fn set_child(slots: &mut Slab<Slot>, at: Option<u32>, child: Option<u32>)
     ensures { Changes slots.old slots.new at (with_child child) }
 {
@@ -98,7 +98,7 @@ fn next_index(slots: &Slab<Slot>) -> Result<u32, NoMemory>
     }
 }
 
-/// Fills a slot, and tells its neighbours and its parent of it. A refusal changes no slot.
+/// Fills a slot, and links its neighbours and its parent to it. A refusal changes no slot.
 pub fn push(slots: &mut Slab<Slot>, slot: Slot) -> Result<u32, NoMemory>
     ensures pushed { IfOk result (λ index. IsLent slots.old slots.new slot index) }
     ensures refused { OnErr result (slots.new.slots ≡ slots.old.slots) }

@@ -22,7 +22,7 @@ fn meets(slot: &Slot, range: &Range) -> bool
     }
 }
 
-// Whether this access stands in the way of a use of the range.
+// Whether this access conflicts with a use of the range.
 fn forbids(slot: &Slot, range: &Range, way: Way) -> bool
     ensures { IsTrue result ↔ Forbids way range.now slot.now }
 {
@@ -45,7 +45,7 @@ fn is_next(up: Option<u32>, index: u32) -> bool
     }
 }
 
-/// Whether no live access stands in the way but the one through which the range is used, and its ancestors. It goes
+/// Whether no live access conflicts with the use, except the one through which the range is used, and its ancestors. It goes
 /// over all that are live, from the newest back, and so meets each child before its parent.
 pub fn is_clear(
     slots: &Slab<Slot>,

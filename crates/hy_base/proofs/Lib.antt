@@ -1,2 +1,7 @@
+pub mod Firsts
 pub mod Names
+pub mod Numerals
 pub mod OneFirst
+pub mod Remainders
+pub mod Trimming
+pub mod Walks

@@ -2,13 +2,15 @@
 use Rattle.std.proofs.Common.{◌≡◌, ◌⊎◌, ℕ, ◌<◌, List, [], ◌∷◌, Some, get_or, refl, sym, ap, ◌∙◌, inl, inr}
 use Rattle.std.proofs.lemmas.Bool.{cases_order}
 use Rattle.hy_base.specs.declared.refusal.Rule.{Rule}
-use Rattle.hy_base.specs.declared.refusal.Rule.TheVariants.{Z1, L1, L2, L3, L4, P1, P2, N1, N2, N3, N4, N5, X1, T1, T2, T3, T4, T5, T6, R1, R2, R3, R4, G1, G2, G3, C1, C2, C3, C4, Y1, Y2, Y3, Y4, Y5, I1, I2, I3, I4, E1, E2}
+use Rattle.hy_base.specs.declared.refusal.Rule.TheVariants.{Z1, L1, L2, L3, L4, P1, P2, N1, N2, N3, N4, N5, X1, T1, T2, T3, T4, T5, T6, R1, R2, R3, R4, G1}
+use Rattle.hy_base.specs.declared.refusal.Rule.TheVariants.{G2, G3, C1, C2, C3, C4, Y1, Y2, Y3, Y4, Y5, I1, I2, I3, E1, E2}
 use Rattle.hy_base.specs.First.{Refusal, Precedes, IsFirst}
 use Rattle.hy_base.specs.Rules.{place_of}
 
 -- the table of the rules
 rules_in_order : List Rule
-rules_in_order = Z1 ∷ L1 ∷ L2 ∷ L3 ∷ L4 ∷ P1 ∷ P2 ∷ N1 ∷ N2 ∷ N3 ∷ N4 ∷ N5 ∷ X1 ∷ T1 ∷ T2 ∷ T3 ∷ T4 ∷ T5 ∷ T6 ∷ R1 ∷ R2 ∷ R3 ∷ R4 ∷ G1 ∷ G2 ∷ G3 ∷ C1 ∷ C2 ∷ C3 ∷ C4 ∷ Y1 ∷ Y2 ∷ Y3 ∷ Y4 ∷ Y5 ∷ I1 ∷ I2 ∷ I3 ∷ I4 ∷ E1 ∷ E2 ∷ []
+rules_in_order = Z1 ∷ L1 ∷ L2 ∷ L3 ∷ L4 ∷ P1 ∷ P2 ∷ N1 ∷ N2 ∷ N3 ∷ N4 ∷ N5 ∷ X1 ∷ T1 ∷ T2 ∷ T3 ∷ T4 ∷ T5 ∷ T6 ∷ R1 ∷ R2 ∷ R3 ∷ R4 ∷ G1 ∷ G2 ∷ G3 ∷ C1 ∷ C2 ∷
+    C3 ∷ C4 ∷ Y1 ∷ Y2 ∷ Y3 ∷ Y4 ∷ Y5 ∷ I1 ∷ I2 ∷ I3 ∷ E1 ∷ E2 ∷ []
 
 -- a rule stands at its place
 at_place : (rule : Rule) → get_or rules_in_order (place_of rule) Z1 ≡ rule

@@ -1,5 +1,7 @@
 pub mod Answers
 pub mod Contents
+pub mod Counted
+pub mod Digits
 pub mod Files
 pub mod Filled
 pub mod First
@@ -10,3 +12,4 @@ pub mod Outside
 pub mod Rules
 pub mod Sinks
 pub mod Streams
+pub mod Walked

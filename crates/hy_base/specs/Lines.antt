@@ -1,9 +1,10 @@
 -- The line that `read` takes of the input, and the number in it.
-use Rattle.std.specs.Prelude.{ℕ, zero, suc, ◌+◌, ◌-◌, ◌*◌, ◌==◌, ◌&&◌, Bool, true, false, List, [], ◌∷◌, reverse, Option, Some, None, ℤ, pos, neg_ℤ, nat_le, if◌then◌else◌}
+use Rattle.std.specs.Prelude.{ℕ, zero, suc, ◌+◌, ◌-◌, ◌*◌, ◌==◌, ◌&&◌, Bool, true, false, List, [], ◌∷◌, reverse, Option, Some, None, ℤ, pos, neg_ℤ, nat_le}
+use Rattle.std.specs.Prelude.{if◌then◌else◌}
 use Rattle.hy_base.specs.Numbers.{fits}
 
--- The bytes up to a line feed, without it, and what is left behind it; or the bytes up to the end of the input; or too many
--- bytes without a line feed, and what is left behind them.
+-- The bytes up to a line feed, without it, and what is left after it; or the bytes up to the end of the input; or too many
+-- bytes without a line feed, and what is left after them.
 pub data Split : Type 0 where
   Line : (bytes rest : List ℕ) → Split
   Last : (bytes : List ℕ) → Split

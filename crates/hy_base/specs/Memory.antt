@@ -10,7 +10,7 @@ use Rattle.hy_base.specs.Files.{Held, Untold, Missing, Holding}
 abbrev pub bytes_under : {Y Z S : Type 0} → HashMap (String Y) (Vec ℕ Z) S → List ℕ → Option (List ℕ)
 bytes_under contents name = option_map (λ file. file.items) (get_by_text contents name)
 
--- what is told of a name that stands for these bytes, or for none
+-- what is known of a name that stands for these bytes, or for none
 abbrev pub held : Bool → Option (List ℕ) → Held
 held true bytes = Untold
 held false None = Missing

@@ -1,8 +1,10 @@
 -- The rules by which a source is refused: the place of each in their table, its name and its text.
 use Rattle.std.specs.Prelude.{ℕ, List, codes}
 use Rattle.hy_base.specs.declared.refusal.Rule.{Rule}
-use Rattle.hy_base.specs.declared.refusal.Rule.TheVariants.{Z1, L1, L2, L3, L4, P1, P2, N1, N2, N3, N4, N5, X1, T1, T2, T3, T4, T5, T6, R1, R2, R3, R4, G1, G2, G3, C1, C2, C3, C4, Y1, Y2, Y3, Y4, Y5, I1, I2, I3, I4, E1, E2}
+use Rattle.hy_base.specs.declared.refusal.Rule.TheVariants.{Z1, L1, L2, L3, L4, P1, P2, N1, N2, N3, N4, N5, X1, T1, T2, T3, T4, T5, T6, R1, R2, R3, R4, G1}
+use Rattle.hy_base.specs.declared.refusal.Rule.TheVariants.{G2, G3, C1, C2, C3, C4, Y1, Y2, Y3, Y4, Y5, I1, I2, I3, E1, E2}
 
+-- the place of a rule in their table
 abbrev pub place_of : Rule → ℕ
 place_of Z1 = 0
 place_of L1 = 1
@@ -42,9 +44,8 @@ place_of Y5 = 34
 place_of I1 = 35
 place_of I2 = 36
 place_of I3 = 37
-place_of I4 = 38
-place_of E1 = 39
-place_of E2 = 40
+place_of E1 = 38
+place_of E2 = 39
 
 abbrev pub name_of : Rule → List ℕ
 name_of Z1 = codes "Z1"
@@ -85,7 +86,6 @@ name_of Y5 = codes "Y5"
 name_of I1 = codes "I1"
 name_of I2 = codes "I2"
 name_of I3 = codes "I3"
-name_of I4 = codes "I4"
 name_of E1 = codes "E1"
 name_of E2 = codes "E2"
 
@@ -129,6 +129,5 @@ text_of Y5 = codes "form of yield"
 text_of I1 = codes "use of an unset place"
 text_of I2 = codes "place unset at exit"
 text_of I3 = codes "move not allowed"
-text_of I4 = codes "paths disagree"
 text_of E1 = codes "overlaps a live projection"
 text_of E2 = codes "accesses overlap"

@@ -5,7 +5,10 @@
 mod buffer;
 mod contents;
 mod files;
+mod first;
+mod line_number;
 mod memory;
+mod numbers;
 mod plain;
 mod position;
 mod refusal;
@@ -14,10 +17,13 @@ mod streams;
 mod text;
 
 pub use files::{FileFault, Files};
+pub use first::{BrokenRule, sooner};
+pub use line_number::{number_of, trimmed};
 pub use memory::{MemFiles, MemSink};
+pub use numbers::{IntegerType, Num, Operation, negated_int, word_of};
 pub use plain::{PlainFiles, PlainSink, PlainSource};
 pub use position::Span;
 pub use refusal::{Fault, NoMemory, Rule};
-pub use run::{Counts, End, Ending, RunCause, RunFault, TrapKind};
+pub use run::{Counts, End, Ending, NO_COUNTS, RunCause, RunFault, TrapKind};
 pub use streams::{Failed, Sink, Source};
 pub use text::Text;

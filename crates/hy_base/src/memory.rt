@@ -1,7 +1,8 @@
 // Output and files in memory that fail at the calls that they are told to fail at.
 ghost use Rattle.std.specs.Str.{bytes_eq};
 ghost use Rattle.indexmap.specs.IndexSet.{contains_text};
-ghost use Rattle.std.specs.Prelude.{◌≢◌, true, false, IsTrue, OnErr, ◌≡◌, ◌-◌, ◌^◌, ◌<◌, ◌≤◌, ◌+◌, ◌++◌, ◌⊎◌, ◌↔◌, ℕ, List, [], Some, IsSome, IsOk, IsErr, IfOk, OnOk, IsErrOf, length, take, vec_len, Contains};
+ghost use Rattle.std.specs.Prelude.{◌≢◌, true, false, IsTrue, OnErr, ◌≡◌, ◌-◌, ◌^◌, ◌<◌, ◌≤◌, ◌+◌, ◌++◌, ◌⊎◌, ◌↔◌, ℕ, List, [], Some, IsSome, IsOk, IsErr};
+ghost use Rattle.std.specs.Prelude.{IfOk, OnOk, IsErrOf, length, take, vec_len, Contains};
 ghost use Rattle.hy_base.specs.Files.{Holding, IsHolding, file_faults_after, Loads, Stores};
 ghost use Rattle.hy_base.specs.Memory.{bytes_under, held, next_call, cut_at, cut, IsToCome};
 ghost use Rattle.hy_base.specs.Outside.{faults_after, StillTells};
@@ -77,8 +78,10 @@ impl Sink for MemSink {
         ensures faults { ⟦<MemSink as Sink>⟧.faults self.new ≡ faults_after (⟦<MemSink as Sink>⟧.faults self.old) result }
         ensures bytes { StillTells (⟦<MemSink as Sink>⟧.tells self.old) (⟦<MemSink as Sink>⟧.tells self.new) (Puts piece.now result) }
         ensures told { ⟦<MemSink as Sink>⟧.tells self.new ≡ Some (sent self.new) }
-        ensures sent { sent self.new ≡ sent self.old ++ take (sent_room self.old - length (sent self.old)) (cut (cut_at (sink_failing self.old) (sink_call self.old)) piece.now) }
-        ensures failed { IsErr result ↔ (IsSome (cut_at (sink_failing self.old) (sink_call self.old)) ⊎ (sent_room self.old < length (sent self.old) + length piece.now)) }
+        ensures sent { sent self.new ≡ sent self.old ++ take (sent_room self.old - length (sent self.old))
+            (cut (cut_at (sink_failing self.old) (sink_call self.old)) piece.now) }
+        ensures failed { IsErr result ↔ (IsSome (cut_at (sink_failing self.old) (sink_call self.old))
+            ⊎ (sent_room self.old < length (sent self.old) + length piece.now)) }
         ensures call { sink_call self.new ≡ next_call (sink_call self.old) }
         ensures failing { sink_failing self.new ≡ sink_failing self.old }
         ensures room { sent_room self.new ≡ sent_room self.old }
@@ -121,7 +124,7 @@ impl Schedule {
     }
 }
 
-// Adds a name to those of which nothing is told.
+// Adds a name to those of which nothing is known.
 fn lose(alloc: Global, lost: &mut IndexSet<String>, name: &str) -> Result<(), NoMemory>
     ensures lost { OnOk result (contains_text lost.new name.now ≡ true) }
     ensures others { OnOk result ((n : List ℕ) → n ≢ name.now → contains_text lost.new n ≡ contains_text lost.old n) }
@@ -132,7 +135,7 @@ fn lose(alloc: Global, lost: &mut IndexSet<String>, name: &str) -> Result<(), No
     Ok(())
 }
 
-// Takes a name out of those of which nothing is told.
+// Takes a name out of those of which nothing is known.
 fn find_again(lost: &mut IndexSet<String>, name: &str)
     ensures found { contains_text lost.new name.now ≡ false }
     ensures others { (n : List ℕ) → n ≢ name.now → contains_text lost.new n ≡ contains_text lost.old n }
@@ -154,8 +157,8 @@ impl MemFiles {
     ghost use Rattle.hy_base.specs.Contents.{files_failing, files_call};
 
     /// Files with these contents. `failing` has the numbers of the calls that fail, where calls of `load` and `store` are
-    /// counted together from 0, also those that memory is wanting for. The number of calls stays at its greatest value
-    /// once it is there. Of a name whose store failed nothing is told, and no load finds it, until it is stored again.
+    /// counted together from 0, also those for which there was no memory. The number of calls stays at its greatest value
+    /// once it is there. Of a name whose store failed nothing is known, and no load finds it, until it is stored again.
     pub fn new(alloc: Global, contents: IndexMap<String, Vec<u8>>, failing: Vec<u64>) -> MemFiles
         ensures holds { (n : List ℕ) → ⟦<MemFiles as Files>⟧.holds result n ≡ held false (bytes_under contents n) }
         ensures failing { files_failing result ≡ failing.items }
@@ -182,7 +185,8 @@ impl Files for MemFiles {
 
     ghost holds = { λ files name. held (contains_text files.lost name) (bytes_under files.contents name) };
 
-    ghost load_may_fail = { λ files name. (IsHolding (held (contains_text files.lost name) (bytes_under files.contents name)) → ⊥) ⊎ IsToCome files.schedule.failing.items files.schedule.calls };
+    ghost load_may_fail = { λ files name. (IsHolding (held (contains_text files.lost name) (bytes_under files.contents name)) → ⊥)
+        ⊎ IsToCome files.schedule.failing.items files.schedule.calls };
 
     ghost store_may_fail = { λ files name. IsToCome files.schedule.failing.items files.schedule.calls };
 
@@ -195,8 +199,10 @@ impl Files for MemFiles {
         ensures same { (n : List ℕ) → ⟦<MemFiles as Files>⟧.holds self.new n ≡ ⟦<MemFiles as Files>⟧.holds self.old n }
         ensures loads { (n : List ℕ) → ⟦<MemFiles as Files>⟧.load_may_fail self.new n → ⟦<MemFiles as Files>⟧.load_may_fail self.old n }
         ensures stores { (n : List ℕ) → ⟦<MemFiles as Files>⟧.store_may_fail self.new n → ⟦<MemFiles as Files>⟧.store_may_fail self.old n }
-        ensures failed { IsErrOf result FileFault.Failed → Contains (files_failing self.old) (files_call self.old) ⊎ (IsHolding (⟦<MemFiles as Files>⟧.holds self.old name.now) → ⊥) }
-        ensures works { OnOk result ((Contains (files_failing self.old) (files_call self.old) → ⊥) × IsHolding (⟦<MemFiles as Files>⟧.holds self.old name.now)) }
+        ensures failed { IsErrOf result FileFault.Failed → Contains (files_failing self.old) (files_call self.old)
+            ⊎ (IsHolding (⟦<MemFiles as Files>⟧.holds self.old name.now) → ⊥) }
+        ensures works { OnOk result ((Contains (files_failing self.old) (files_call self.old) → ⊥)
+            × IsHolding (⟦<MemFiles as Files>⟧.holds self.old name.now)) }
         ensures call { files_call self.new ≡ next_call (files_call self.old) }
         ensures failing { files_failing self.new ≡ files_failing self.old }
     {

@@ -51,7 +51,7 @@ impl Source for PlainSource {
     }
 }
 
-/// Where bytes are written, up to a fixed count. What does not fit is dropped, and from then on nothing is told. No
+/// Where bytes are written, up to a fixed count. What does not fit is dropped, and from then on nothing is known. No
 /// call fails.
 #[derive(Drop)]
 pub struct PlainSink {
@@ -97,7 +97,8 @@ impl Sink for PlainSink {
         ensures bytes { StillTells (⟦<PlainSink as Sink>⟧.tells self.old) (⟦<PlainSink as Sink>⟧.tells self.new) (Puts piece.now result) }
         ensures kept { kept self.new ≡ take (room_of self.old) (kept self.old ++ piece.now) }
         ensures room { room_of self.new ≡ room_of self.old }
-        ensures told { IsSome (⟦<PlainSink as Sink>⟧.tells self.new) ↔ (IsSome (⟦<PlainSink as Sink>⟧.tells self.old) × (length (kept self.old) + length piece.now ≤ room_of self.old)) }
+        ensures told { IsSome (⟦<PlainSink as Sink>⟧.tells self.new) ↔ (IsSome (⟦<PlainSink as Sink>⟧.tells self.old)
+            × (length (kept self.old) + length piece.now ≤ room_of self.old)) }
         ensures works { IsOk result }
     {
         if !self.buffer.fits(piece.len()) {

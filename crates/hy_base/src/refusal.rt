@@ -1,12 +1,12 @@
 ghost use Rattle.std.specs.Prelude.{◌≡◌};
 ghost use Rattle.hy_base.specs.declared.refusal.Fault.TheVariants.{NoMemory};
-ghost use Rattle.hy_base.specs.Rules.{name_of, text_of};
+ghost use Rattle.hy_base.specs.Rules.{name_of, text_of, place_of};
 
 use crate::Span;
 use std::alloc::{AllocError, AllocFailed};
 use thiserror::Error;
 
-/// Memory was wanting. It is merged with no other answer, and nothing ties it to a particular cause.
+/// Memory ran out. It is merged with no other answer, and nothing ties it to a particular cause.
 #[derive(Clone, Copy, Debug, PartialEq, Eq, Error)]
 #[error("out of memory")]
 pub struct NoMemory;
@@ -65,7 +65,6 @@ pub enum Rule {
     I1,
     I2,
     I3,
-    I4,
     E1,
     E2,
 }
@@ -114,7 +113,6 @@ impl Rule {
             Rule::I1 => "I1",
             Rule::I2 => "I2",
             Rule::I3 => "I3",
-            Rule::I4 => "I4",
             Rule::E1 => "E1",
             Rule::E2 => "E2",
         }
@@ -163,9 +161,56 @@ impl Rule {
             Rule::I1 => "use of an unset place",
             Rule::I2 => "place unset at exit",
             Rule::I3 => "move not allowed",
-            Rule::I4 => "paths disagree",
             Rule::E1 => "overlaps a live projection",
             Rule::E2 => "accesses overlap",
+        }
+    }
+
+    /// Its place in the table of `docs/REFUSALS.md`, from 0.
+    pub fn place(self) -> u8
+        ensures { result ≡ place_of self }
+    {
+        match self {
+            Rule::Z1 => 0,
+            Rule::L1 => 1,
+            Rule::L2 => 2,
+            Rule::L3 => 3,
+            Rule::L4 => 4,
+            Rule::P1 => 5,
+            Rule::P2 => 6,
+            Rule::N1 => 7,
+            Rule::N2 => 8,
+            Rule::N3 => 9,
+            Rule::N4 => 10,
+            Rule::N5 => 11,
+            Rule::X1 => 12,
+            Rule::T1 => 13,
+            Rule::T2 => 14,
+            Rule::T3 => 15,
+            Rule::T4 => 16,
+            Rule::T5 => 17,
+            Rule::T6 => 18,
+            Rule::R1 => 19,
+            Rule::R2 => 20,
+            Rule::R3 => 21,
+            Rule::R4 => 22,
+            Rule::G1 => 23,
+            Rule::G2 => 24,
+            Rule::G3 => 25,
+            Rule::C1 => 26,
+            Rule::C2 => 27,
+            Rule::C3 => 28,
+            Rule::C4 => 29,
+            Rule::Y1 => 30,
+            Rule::Y2 => 31,
+            Rule::Y3 => 32,
+            Rule::Y4 => 33,
+            Rule::Y5 => 34,
+            Rule::I1 => 35,
+            Rule::I2 => 36,
+            Rule::I3 => 37,
+            Rule::E1 => 38,
+            Rule::E2 => 39,
         }
     }
 }

@@ -21,7 +21,7 @@ pub enum End {
     Trap(TrapKind, Span),
     /// A turn was wanted and none was left.
     Spent,
-    /// A byte was wanted behind an input that is only a beginning. This is an end of the definitions: no call gives it.
+    /// A byte was wanted after an input that is only a beginning. This is an end of the definitions: no call gives it.
     Asks,
 }
 
@@ -34,6 +34,15 @@ pub struct Counts {
     pub opened: u64,
     pub closed: u64,
 }
+
+/// The counts of a run in which nothing has happened.
+pub const NO_COUNTS: Counts = Counts {
+    turns: 0,
+    blocks: 0,
+    freed: 0,
+    opened: 0,
+    closed: 0,
+};
 
 /// A run that came to its end.
 #[derive(Clone, Copy, Debug, PartialEq, Eq)]

@@ -1,5 +1,6 @@
 -- What is found of the live activations, where one of them is changed, started or ended.
-use Rattle.std.proofs.Common.{◌≡◌, ◌≢◌, ◌==◌, if◌then◌else◌, inl, inr, ℕ, suc, List, [], ◌∷◌, ◌++◌, length, map, Option, Some, None, IsSome, IsSomeAnd, is_some, true, refl, sym, ap, subst, ◌∙◌, arith}
+use Rattle.std.proofs.Common.{◌≡◌, ◌≢◌, ◌==◌, if◌then◌else◌, inl, inr, ℕ, suc, List, [], ◌∷◌, ◌++◌, length, map, Option}
+use Rattle.std.proofs.Common.{Some, None, IsSome, IsSomeAnd, is_some, true, refl, sym, ap, subst, ◌∙◌, arith}
 use Rattle.std.proofs.lemmas.Bool.{cases_eq}
 use Rattle.hy_frames.specs.declared.id.ActId.{ActId}
 use Rattle.hy_frames.specs.declared.id.Standing.{Standing}
@@ -13,7 +14,7 @@ use Rattle.hy_object.specs.Controls.{Taken}
 use Rattle.hy_object.specs.States.{Activation}
 use Rattle.hy_store.proofs.Waiting.{frames_of, times_joined}
 use Rattle.hy_checked.specs.declared.machine.Waiting.{Waiting}
-use Rattle.hy_checked.specs.Standing.{AreCallers, AreSleepers, IsKeptAs, IsPausedAs, IsRunningAs, waits_as}
+use Rattle.hy_checked.specs.Simulates.{AreCallers, AreSuspended, IsKeptAs, IsPausedAs, IsRunningAs, waits_as}
 
 -- RECORDS OF A NUMBER
 
@@ -27,7 +28,8 @@ if_other : {Y : Type 0} (k n : ℕ) (a b : Y) → k ≢ n → (if k == n then a 
 if_other k n a b differs = grind arith
 
 module _ {X : Type 0} (number : X → ℕ) where
-  changed_same : (n : ℕ) (change : X → X) → ((x : X) → number (change x) ≡ number x) → (xs : List X) (w : X) → numbered number n xs ≡ Some w → numbered number n (changed number n change xs) ≡ Some (change w)
+  changed_same : (n : ℕ) (change : X → X) → ((x : X) → number (change x) ≡ number x) → (xs : List X) (w : X) → numbered number n xs ≡ Some w
+      → numbered number n (changed number n change xs) ≡ Some (change w)
   changed_same n change keeps [] w h = absurd (cc)
   changed_same n change keeps (x ∷ rest) w h = elim (cases_eq (number x) n) [
     | inl same ↦
@@ -40,7 +42,8 @@ module _ {X : Type 0} (number : X → ℕ) where
         ∙ changed_same n change keeps rest w (sym (if_other (number x) n (Some x) (numbered number n rest) differs) ∙ h)
   ]
 
-  changed_other : (n k : ℕ) (change : X → X) → ((x : X) → number (change x) ≡ number x) → (xs : List X) → k ≢ n → numbered number k (changed number n change xs) ≡ numbered number k xs
+  changed_other : (n k : ℕ) (change : X → X) → ((x : X) → number (change x) ≡ number x) → (xs : List X) → k ≢ n
+      → numbered number k (changed number n change xs) ≡ numbered number k xs
   changed_other n k change keeps [] differs = refl
   changed_other n k change keeps (x ∷ rest) differs = elim (cases_eq (number x) n) [
     | inl same ↦
@@ -68,8 +71,10 @@ module _ {X : Type 0} (number : X → ℕ) where
   in_front : (k : ℕ) (xs ys : List X) (w : X) → numbered number k xs ≡ Some w → numbered number k (xs ++ ys) ≡ Some w
   in_front k [] ys w h = absurd (cc)
   in_front k (x ∷ rest) ys w h = elim (cases_eq (number x) k) [
-    | inl same ↦ if_same (number x) k (Some x) (numbered number k (rest ++ ys)) same ∙ sym (if_same (number x) k (Some x) (numbered number k rest) same) ∙ h
-    | inr differs ↦ if_other (number x) k (Some x) (numbered number k (rest ++ ys)) differs ∙ in_front k rest ys w (sym (if_other (number x) k (Some x) (numbered number k rest) differs) ∙ h)
+    | inl same ↦ if_same (number x) k (Some x) (numbered number k (rest ++ ys)) same
+        ∙ sym (if_same (number x) k (Some x) (numbered number k rest) same) ∙ h
+    | inr differs ↦ if_other (number x) k (Some x) (numbered number k (rest ++ ys)) differs
+        ∙ in_front k rest ys w (sym (if_other (number x) k (Some x) (numbered number k rest) differs) ∙ h)
   ]
 
   at_end : (k : ℕ) (xs : List X) (x : X) → (IsSome (numbered number k xs) → ⊥) → number x ≡ k → numbered number k (xs ++ x ∷ []) ≡ Some x
@@ -96,14 +101,16 @@ module _ {X : Type 0} (number : X → ℕ) where
         ∙ ap (λ ys. x ∷ ys) (none_left n rest (omega (arith, none, times-le n (number x) (map number rest))))
   ]
 
-  without_size : (n : ℕ) (xs : List X) (w : X) → AreApart (map number xs) → numbered number n xs ≡ Some w → length xs ≡ suc (length (without number n xs))
+  without_size : (n : ℕ) (xs : List X) (w : X) → AreApart (map number xs) → numbered number n xs ≡ Some w
+      → length xs ≡ suc (length (without number n xs))
   without_size n [] w apart h = absurd (cc)
   without_size n (x ∷ rest) w apart h = elim (cases_eq (number x) n) [
     | inl same ↦
         ap suc (sym (ap (λ ys. length ys) (if_same (number x) n (without number n rest) (x ∷ without number n rest) same
         ∙ none_left n rest (omega (arith, apart n, ap (λ k. times n (k ∷ map number rest)) same, times-same n (map number rest))))))
     | inr differs ↦
-        ap suc (without_size n rest w (λ k. omega (arith, apart k, times-le k (number x) (map number rest))) (sym (if_other (number x) n (Some x) (numbered number n rest) differs) ∙ h)
+        ap suc (without_size n rest w (λ k. omega (arith, apart k, times-le k (number x) (map number rest)))
+        (sym (if_other (number x) n (Some x) (numbered number n rest) differs) ∙ h)
         ∙ sym (ap (λ ys. length ys) (if_other (number x) n (without number n rest) (x ∷ without number n rest) differs)))
   ]
 
@@ -129,11 +136,16 @@ then_keeps old mid new frame a b = record { stays = λ act one is differs. b.sta
 module _ (old new : List acts.Activation) (act : ActId) (one : acts.Activation) (is : acts.activation act old ≡ Some one) where
   -- another frame is another activation's
   other_number : (other : ActId) (w : acts.Activation) → acts.activation other old ≡ Some w → w.frame ≢ one.frame → other.slot ≢ act.slot
-  other_number other w h differs e = differs (ap (λ (a : acts.Activation). a.frame) (same_one w one (sym h ∙ ap (λ n. numbered acts.slot_of n old) e ∙ is)))
+  other_number other w h differs e =
+      differs (ap (λ (a : acts.Activation). a.frame) (same_one w one (sym h ∙ ap (λ n. numbered acts.slot_of n old) e ∙ is)))
 
-  module _ (change : acts.Activation → acts.Activation) (changes : new ≡ acts.with_activation act change old) (keeps : (x : acts.Activation) → acts.slot_of (change x) ≡ acts.slot_of x) where
+  module _ (change : acts.Activation → acts.Activation) (changes : new ≡ acts.with_activation act change old) (keeps : (x : acts.Activation)
+      → acts.slot_of (change x) ≡ acts.slot_of x) where
     pub changed_keeps : KeepsOthers old new one.frame
-    changed_keeps = record { stays = λ other w h differs. ap (acts.activation other) changes ∙ changed_other acts.slot_of act.slot other.slot change keeps old (other_number other w h differs) ∙ h }
+    changed_keeps = record {
+      stays = λ other w h differs. ap (acts.activation other) changes
+          ∙ changed_other acts.slot_of act.slot other.slot change keeps old (other_number other w h differs) ∙ h;
+    }
 
     pub changed_many : length new ≡ length old
     changed_many = ap (λ xs. length xs) changes ∙ changed_size acts.slot_of act.slot change old
@@ -142,12 +154,16 @@ module _ (old new : List acts.Activation) (act : ActId) (one : acts.Activation) 
     changed_is = ap (acts.activation act) changes ∙ changed_same acts.slot_of act.slot change keeps old one is
 
   pub ended_keeps : new ≡ acts.without_activation act old → KeepsOthers old new one.frame
-  ended_keeps ends = record { stays = λ other w h differs. ap (acts.activation other) ends ∙ without_other acts.slot_of act.slot other.slot old (other_number other w h differs) ∙ h }
+  ended_keeps ends = record {
+    stays = λ other w h differs. ap (acts.activation other) ends
+        ∙ without_other acts.slot_of act.slot other.slot old (other_number other w h differs) ∙ h;
+  }
 
   pub ended_many : new ≡ acts.without_activation act old → acts.HaveOwnIds old → length old ≡ suc (length new)
   ended_many ends own = without_size acts.slot_of act.slot old one own is ∙ ap suc (sym (ap (λ xs. length xs) ends))
 
-module _ (old new : List acts.Activation) (act : ActId) (number frame : ℕ) (caller : Option ActId) (starts : new ≡ old ++ acts.started act number frame caller ∷ []) where
+module _ (old new : List acts.Activation) (act : ActId) (number frame : ℕ) (caller : Option ActId)
+    (starts : new ≡ old ++ acts.started act number frame caller ∷ []) where
   pub started_stays : (other : ActId) (w : acts.Activation) → acts.activation other old ≡ Some w → acts.activation other new ≡ Some w
   started_stays other w h = ap (acts.activation other) starts ∙ in_front acts.slot_of other.slot old (acts.started act number frame caller ∷ []) w h
 
@@ -171,34 +187,49 @@ pub none_in : (f x : ℕ) (xs : List ℕ) → times f (x ∷ xs) ≡ 0 → (x �
 none_in f x xs none = (λ e. absurd (omega (arith, ap (λ n. times f (n ∷ xs)) e, times-same f xs, none)), omega (arith, times-le f x xs, none))
 
 module _ (object : Object) (old new : List acts.Activation) (f : ℕ) (keeps : KeepsOthers old new f) where
-  pub paused_stays : (act : ActId) (standing : Standing) (a : Activation) → a.frame ≢ f → IsPausedAs object old act standing a → IsPausedAs object new act standing a
-  paused_stays act standing a differs p = record { one = p.one; is = keeps.stays act p.one p.is (λ e. differs (p.kept.frame ∙ e)); standing_is = p.standing_is; kept = p.kept }
+  pub paused_stays : (act : ActId) (standing : Standing) (a : Activation) → a.frame ≢ f → IsPausedAs object old act standing a
+      → IsPausedAs object new act standing a
+  paused_stays act standing a differs p = record {
+    one = p.one;
+    is = keeps.stays act p.one p.is (λ e. differs (p.kept.frame ∙ e));
+    standing_is = p.standing_is;
+    kept = p.kept;
+  }
 
-  pub callers_stay : (caller : Option ActId) (activations : List Activation) → times f (frames_of activations) ≡ 0 → AreCallers object old caller activations → AreCallers object new caller activations
+  pub callers_stay : (caller : Option ActId) (activations : List Activation) → times f (frames_of activations) ≡ 0
+      → AreCallers object old caller activations → AreCallers object new caller activations
   callers_stay caller [] none h = h
   callers_stay caller (a ∷ rest) none h =
       let away = none_in f a.frame (frames_of rest) none in
       (h.0, h.1, (h.2.0, (paused_stays h.0 (Running h.1) a away.0 h.2.1.0, callers_stay h.1 rest away.1 h.2.1.1)))
 
-  pub sleepers_stay : (sleepers : List ActId) (activations : List Activation) → times f (frames_of activations) ≡ 0 → AreSleepers object old sleepers activations → AreSleepers object new sleepers activations
-  sleepers_stay sleepers [] none h = h
-  sleepers_stay sleepers (a ∷ rest) none h =
+  pub suspended_stay : (suspended_ids : List ActId) (activations : List Activation) → times f (frames_of activations) ≡ 0
+      → AreSuspended object old suspended_ids activations → AreSuspended object new suspended_ids activations
+  suspended_stay suspended_ids [] none h = h
+  suspended_stay suspended_ids (a ∷ rest) none h =
       let away = none_in f a.frame (frames_of rest) none in
-      (h.0, h.1, (h.2.0, (paused_stays h.0 Suspended a away.0 h.2.1.0, sleepers_stay h.1 rest away.1 h.2.1.1)))
+      (h.0, h.1, (h.2.0, (paused_stays h.0 Suspended a away.0 h.2.1.0, suspended_stay h.1 rest away.1 h.2.1.1)))
 
 -- one that goes on runs
-pub runs_on : (object : Object) (live : List acts.Activation) (act : ActId) (caller : Option ActId) (a : Activation) → IsPausedAs object live act (Running caller) a → IsRunningAs live act caller a
+pub runs_on : (object : Object) (live : List acts.Activation) (act : ActId) (caller : Option ActId) (a : Activation)
+    → IsPausedAs object live act (Running caller) a → IsRunningAs live act caller a
 runs_on object live act caller a p = record { one = p.one; is = p.is; standing_is = p.standing_is; number = p.kept.number; frame = p.kept.frame }
 
--- where it goes on, as it was told
-pub kept_as : (object : Object) (live : List acts.Activation) (act : ActId) (standing : Standing) (a : Activation) (w : Waiting) → IsPausedAs object live act standing a → IsSomeAnd (acts.activation act live) (λ one. w ≡ waits_as one) → IsKeptAs object w a
-kept_as object live act standing a w p told = subst (λ v. IsKeptAs object v a) (sym (of_found (acts.activation act live) p.one (λ one. w ≡ waits_as one) p.is told)) p.kept
+-- where it goes on, as it was kept
+pub kept_as : (object : Object) (live : List acts.Activation) (act : ActId) (standing : Standing) (a : Activation) (w : Waiting)
+    → IsPausedAs object live act standing a → IsSomeAnd (acts.activation act live) (λ one. w ≡ waits_as one) → IsKeptAs object w a
+kept_as object live act standing a w p told =
+    subst (λ v. IsKeptAs object v a) (sym (of_found (acts.activation act live) p.one (λ one. w ≡ waits_as one) p.is told)) p.kept
 
 -- FRAMES
 
 -- the running activation's frame is none of the others'
-pub own_apart : (f : ℕ) (xs ys : List Activation) → AreApart (f ∷ frames_of (xs ++ ys)) → (times f (frames_of xs) ≡ 0) × (times f (frames_of ys) ≡ 0)
-own_apart f xs ys apart = (omega (arith, apart f, times-same f (frames_of (xs ++ ys)), times_joined f xs ys), omega (arith, apart f, times-same f (frames_of (xs ++ ys)), times_joined f xs ys))
+pub own_apart : (f : ℕ) (xs ys : List Activation) → AreApart (f ∷ frames_of (xs ++ ys))
+    → (times f (frames_of xs) ≡ 0) × (times f (frames_of ys) ≡ 0)
+own_apart f xs ys apart = (
+  omega (arith, apart f, times-same f (frames_of (xs ++ ys)), times_joined f xs ys),
+  omega (arith, apart f, times-same f (frames_of (xs ++ ys)), times_joined f xs ys),
+)
 
 -- the frame of a suspended one is none of the others'
 pub record IsApart (f : ℕ) (callers : List Activation) (t : Taken) : Type 0 where
@@ -207,8 +238,9 @@ pub record IsApart (f : ℕ) (callers : List Activation) (t : Taken) : Type 0 wh
   pub others : times t.found.frame (frames_of t.others) ≡ 0
   pub not_running : times f (frames_of t.others) ≡ 0
 
-pub sleeper_apart : (f : ℕ) (callers suspended : List Activation) (t : Taken) → AreApart (f ∷ frames_of (callers ++ suspended)) → ((n : ℕ) → times n (frames_of suspended) ≡ times n (t.found.frame ∷ frames_of t.others)) → IsApart f callers t
-sleeper_apart f callers suspended t apart same =
+pub suspended_apart : (f : ℕ) (callers suspended : List Activation) (t : Taken) → AreApart (f ∷ frames_of (callers ++ suspended))
+    → ((n : ℕ) → times n (frames_of suspended) ≡ times n (t.found.frame ∷ frames_of t.others)) → IsApart f callers t
+suspended_apart f callers suspended t apart same =
     let most = apart t.found.frame in
     let le = times-le t.found.frame f (frames_of (callers ++ suspended)) in
     let joined = times_joined t.found.frame callers suspended in
@@ -224,10 +256,13 @@ sleeper_apart f callers suspended t apart same =
 
 -- THE FIRST
 
-pub one_live : (none live : List acts.Activation) (act : ActId) (number frame : ℕ) → none ≡ [] → live ≡ none ++ acts.started act number frame None ∷ [] → length live ≡ 1
+pub one_live : (none live : List acts.Activation) (act : ActId) (number frame : ℕ) → none ≡ []
+    → live ≡ none ++ acts.started act number frame None ∷ []
+    → length live ≡ 1
 one_live none live act number frame empty begins = started_many none live act number frame None begins ∙ ap (λ xs. suc (length xs)) empty
 
-pub first_runs : (none live : List acts.Activation) (act : ActId) (number frame : ℕ) (a : Activation) → none ≡ [] → live ≡ none ++ acts.started act number frame None ∷ [] → a.number ≡ number → a.frame ≡ frame → IsRunningAs live act None a
+pub first_runs : (none live : List acts.Activation) (act : ActId) (number frame : ℕ) (a : Activation) → none ≡ []
+    → live ≡ none ++ acts.started act number frame None ∷ [] → a.number ≡ number → a.frame ≡ frame → IsRunningAs live act None a
 first_runs none live act number frame a empty begins number_is frame_is = record {
   one = acts.started act number frame None;
   is = started_is none live act number frame None begins (λ there. absurd (never (ap (λ xs. is_some (acts.activation act xs)) (sym empty) ∙ there)));

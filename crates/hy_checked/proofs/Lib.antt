@@ -8,6 +8,6 @@ pub mod Settling
 pub mod Coming
 pub mod Whole
 pub mod Calling
-pub mod Sleepers
+pub mod SuspendedIds
 pub mod Printing
 pub mod Reading

@@ -1,5 +1,6 @@
 -- Lines of output.
-use Rattle.std.proofs.Common.{◌≡◌, ◌+◌, ℕ, suc, Bool, false, List, ◌++◌, length, take, drop, ℤ, Option, Some, Ok, Err, refl, sym, ap, subst, ◌∙◌, arith}
+use Rattle.std.proofs.Common.{◌≡◌, ◌+◌, ℕ, suc, Bool, false, List, ◌++◌, length, take, drop, ℤ, Option, Some, Ok, Err, refl, sym, ap, subst}
+use Rattle.std.proofs.Common.{◌∙◌, arith}
 use Rattle.hy_base.specs.declared.run.RunCause.{RunCause}
 use Rattle.hy_base.specs.declared.run.RunCause.TheVariants as cause
 use Rattle.hy_base.specs.Outside.{StillTells}
@@ -18,20 +19,33 @@ use Rattle.hy_runs.specs.Lines.{Prints, out_faults}
 use Rattle.hy_runs.specs.Runs.{Appends, CountsCause, faults, told}
 use Rattle.hy_runs.proofs.Tellings.{some_front, told_more}
 use Rattle.hy_store.specs.declared.halt.Halt.TheVariants as halt
-use Rattle.hy_store.specs.Sees.{Ghosts, Sees}
+use Rattle.hy_store.specs.Represents.{Ghosts, Represents}
 use Rattle.hy_checked.specs.declared.machine.Machine.{Machine}
-use Rattle.hy_checked.specs.Standing.{IsAt, Stands}
-use Rattle.hy_checked.specs.Walks.{Comes, Leads}
-use Rattle.hy_checked.proofs.Coming.{step_is, wants_memory}
-use Rattle.hy_checked.proofs.Known.{same_fun, sees_fun}
-use Rattle.hy_checked.proofs.Turning.{stands_at}
+use Rattle.hy_checked.specs.Simulates.{IsAt, Simulates}
+use Rattle.hy_checked.specs.Progress.{Comes, RunAdvances}
+use Rattle.hy_checked.proofs.Coming.{step_is, cut_out_of_memory}
+use Rattle.hy_checked.proofs.Known.{same_fun, represents_fun}
+use Rattle.hy_checked.proofs.Turning.{simulates_at}
 use Rattle.hy_checked.proofs.Whole.{drop_front}
 
 -- the outside is not looked at
-pub stands_outside : (object : Object) (m : Machine) (s : State) (input : List ℕ) (cut : Bool) (output : List ℕ) → Stands object m s → Stands object m (record s { input = input; cut = cut; output = output })
-stands_outside object m s input cut output st = record {
+pub simulates_outside : (object : Object) (m : Machine) (s : State) (input : List ℕ) (cut : Bool) (output : List ℕ) → Simulates object m s
+    → Simulates object m (record s { input = input; cut = cut; output = output })
+simulates_outside object m s input cut output st = record {
   ghosts = st.ghosts;
-  sees = (let q = st.sees in record { held = q.held; opened = q.opened; frame = q.frame; fun_is = q.fun_is; own = q.own; slots = q.slots; mine = q.mine; no_array = q.no_array; counts = q.counts; waiting = q.waiting; apart = q.apart });
+  represents = (let q = st.represents in record {
+    held = q.held;
+    opened = q.opened;
+    frame = q.frame;
+    fun_is = q.fun_is;
+    own = q.own;
+    slots = q.slots;
+    mine = q.mine;
+    no_array = q.no_array;
+    counts = q.counts;
+    waiting = q.waiting;
+    apart = q.apart;
+  });
   fun = st.fun;
   number = st.number;
   place = st.place;
@@ -48,42 +62,45 @@ stands_outside object m s input cut output st = record {
 }
 
 module _ (object : Object) (m : Machine) (fun : Fun) (word : ℕ) (shown : Shown) (n : ℤ) (at : IsAt object m fun (instr.Print word shown))
-    (reads : (g : Ghosts) (s : State) → Sees g m.store fun s → (go : ℤ → State) → read_word s word go ≡ go n) where
-  prints : (s : State) → Stands object m s → step object s ≡ record (next s) { output = s.output ++ line_of shown n }
+    (reads : (g : Ghosts) (s : State) → Represents g m.store fun s → (go : ℤ → State) → read_word s word go ≡ go n) where
+  prints : (s : State) → Simulates object m s → step object s ≡ record (next s) { output = s.output ++ line_of shown n }
   prints s st =
       step_is object s fun (Some (instr.Print word shown)) st.going (same_fun object m s fun st at.fun_is) (ap (nth fun.code) st.place ∙ at.instr_is)
-      ∙ reads st.ghosts s (sees_fun object m s fun st at.fun_is) (λ k. record (next s) { output = s.output ++ line_of shown k })
+      ∙ reads st.ghosts s (represents_fun object m s fun st at.fun_is) (λ k. record (next s) { output = s.output ++ line_of shown k })
 
-  piece_is : (s : State) (more : List ℕ) → Stands object m s → next_piece object (with_more s more false) ≡ line_of shown n
+  piece_is : (s : State) (more : List ℕ) → Simulates object m s → next_piece object (with_more s more false) ≡ line_of shown n
   piece_is s more st =
-      ap (λ (t : State). drop (length s.output) t.output) (prints (with_more s more false) (stands_outside object m s (s.input ++ more) false s.output st))
+      ap (λ (t : State). drop (length s.output) t.output) (prints (with_more s more false) (simulates_outside object m s (s.input ++ more) false s.output st))
       ∙ drop_front (length s.output) s.output (line_of shown n) refl
 
-  pub print_goes_on : (input : Option Tape) (mid new : Option (List ℕ)) (ended : Bool) → StillTells mid new (Appends (line_of shown n)) → Leads object m (record m { place = m.place + 1 }) (told input mid) (told input new) ended ended (Ok tt)
+  pub print_goes_on : (input : Option Tape) (mid new : Option (List ℕ)) (ended : Bool) → StillTells mid new (Appends (line_of shown n))
+      → RunAdvances object m (record m { place = m.place + 1 }) (told input mid) (told input new) ended ended (Ok tt)
   print_goes_on input mid new ended out = record {
     does = λ k first w.
         let s : State = w.state in
         let c = w.comes in
         let t : State = record (next s) { output = s.output ++ line_of shown n } in
-        let e : suc s.now.place ≡ m.place + 1 = omega (arith, w.stands.place) in
+        let e : suc s.now.place ≡ m.place + 1 = omega (arith, w.simulates.place) in
         record {
           state = record (next s) { output = s.output ++ line_of shown n };
           comes = record {
             answered = c.answered;
             steps = c.steps + 1;
-            is = steps_add object c.steps 1 (begin object c.answered s.cut k) ∙ ap (step object) c.is ∙ prints s w.stands;
+            is = steps_add object c.steps 1 (begin object c.answered s.cut k) ∙ ap (step object) c.is ∙ prints s w.simulates;
             all = c.all;
             taken = c.taken;
             used_up = c.used_up;
             output = told_more first.out mid new s.output (line_of shown n) c.output out;
           };
           cut_is = w.cut_is;
-          stands = subst (λ (p : ℕ). Stands object (record m { place = p }) (record (next s) { output = s.output ++ line_of shown n })) e
-              (stands_outside object (record m { place = suc s.now.place }) (next s) s.input s.cut (s.output ++ line_of shown n) (stands_at object m s (suc s.now.place) w.stands));
+          simulates = subst (λ (p : ℕ). Simulates object (record m { place = p }) (record (next s) { output = s.output ++ line_of shown n })) e
+              (simulates_outside object (record m { place = suc s.now.place }) (next s) s.input s.cut (s.output ++ line_of shown n)
+              (simulates_at object m s (suc s.now.place) w.simulates));
         };
   }
 
-  pub print_is_cut : (input : Option Tape) (mid new : Option (List ℕ)) (ended : Bool) (c : RunCause) → Prints shown n mid new (Err c) → Leads object m m (told input mid) (told input new) ended ended (Err (halt.Cut c))
+  pub print_is_cut : (input : Option Tape) (mid new : Option (List ℕ)) (ended : Bool) (c : RunCause) → Prints shown n mid new (Err c)
+      → RunAdvances object m m (told input mid) (told input new) ended ended (Err (halt.Cut c))
   print_is_cut input mid new ended cause.Input out = absurd out
   print_is_cut input mid new ended cause.Output out = record {
     does = λ k first w.
@@ -93,17 +110,19 @@ module _ (object : Object) (m : Machine) (fun : Fun) (word : ℕ) (shown : Shown
             state = w.state;
             out = mid;
             comes = w.comes;
-            going = w.stands.going;
-            counts_are = sym w.stands.sees.counts;
-            piece = λ more. subst (λ (xs : List ℕ). StillTells mid new (Appends (take front.0 xs))) (sym (piece_is w.state more w.stands)) front.1;
+            going = w.simulates.going;
+            counts_are = sym w.simulates.represents.counts;
+            piece = λ more. subst (λ (xs : List ℕ). StillTells mid new (Appends (take front.0 xs))) (sym (piece_is w.state more w.simulates)) front.1;
           },
         );
   }
   print_is_cut input mid new ended cause.NoMemory out = record {
-    does = λ k first w. wants_memory object k first (told input new) m w.state m.store.counts (subst (λ (o : Option (List ℕ)). Comes object k first (told input o) w.state) (sym out) w.comes) w.stands refl;
+    does = λ k first w. cut_out_of_memory object k first (told input new) m w.state m.store.counts
+        (subst (λ (o : Option (List ℕ)). Comes object k first (told input o) w.state) (sym out) w.comes) w.simulates refl;
   }
 
-pub print_faults : (shown : Shown) (n : ℤ) (mid new : Option (List ℕ)) (c : RunCause) (i before behind : ℕ) → Prints shown n mid new (Err c) → behind ≡ out_faults before c → CountsCause c (faults i before) (faults i behind)
-print_faults shown n mid new cause.Input i before behind out h = absurd out
-print_faults shown n mid new cause.Output i before behind out h = (refl, h)
-print_faults shown n mid new cause.NoMemory i before behind out h = (refl, h)
+pub print_faults : (shown : Shown) (n : ℤ) (mid new : Option (List ℕ)) (c : RunCause) (i before later : ℕ) → Prints shown n mid new (Err c)
+    → later ≡ out_faults before c → CountsCause c (faults i before) (faults i later)
+print_faults shown n mid new cause.Input i before later out h = absurd out
+print_faults shown n mid new cause.Output i before later out h = (refl, h)
+print_faults shown n mid new cause.NoMemory i before later out h = (refl, h)

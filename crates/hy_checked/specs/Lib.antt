@@ -1,6 +1,7 @@
 pub mod Endings
-pub mod Standing
-pub mod Answers
-pub mod Walks
+pub mod Simulates
+pub mod Instructions
+pub mod Executes
+pub mod Progress
 pub mod Starting
-pub mod Sleeping
+pub mod Suspended

@@ -4,10 +4,11 @@ ghost use Rattle.hy_frames.specs.Activations.{IsLive};
 ghost use Rattle.hy_object.specs.declared.instr.Instr.TheVariants as instr;
 ghost use Rattle.hy_object.specs.Checks.{take_turn};
 ghost use Rattle.hy_object.specs.Controls.{call, leave, project, start};
-ghost use Rattle.hy_store.specs.Opened.{told_range};
-ghost use Rattle.hy_store.specs.Sees.{told_role};
-ghost use Rattle.hy_checked.specs.Answers.{Answers};
-ghost use Rattle.hy_checked.specs.Standing.{HasCaller, IsAt, WaitsAs};
+ghost use Rattle.hy_store.specs.Opened.{abstract_range};
+ghost use Rattle.hy_store.specs.Represents.{abstract_role};
+ghost use Rattle.hy_store.specs.Executes.{MayRunOut};
+ghost use Rattle.hy_checked.specs.Executes.{MachineExecutes};
+ghost use Rattle.hy_checked.specs.Simulates.{HasCaller, IsAt, WaitsAs};
 ghost use Rattle.hy_checked.specs.Starting.{CanStart};
 
 use crate::machine::{Machine, Waiting};
@@ -27,7 +28,7 @@ pub struct Start {
     pub role: Role,
 }
 
-/// A function that is known to be there.
+/// A function that is known to exist.
 pub fn known_fun(object: &Object, number: u32) -> &Fun
     requires { IsSome (slice_get object.now.funs number) }
     ensures { Some result.now ≡ slice_get object.now.funs number }
@@ -62,7 +63,7 @@ impl Machine {
         word: u32,
     ) -> Result<(), Halt>
         requires { IsAt object.now self.old fun.now (instr.Call number slot word) }
-        ensures { Answers object.now self.old self.new result (λ s. call object.now s number slot word) }
+        ensures { MachineExecutes MayRunOut object.now self.old self.new result (λ s. call object.now s number slot word) }
     {
         let callee = known_fun(object, number);
         let reach = self.store.hands_over(fun, callee, slot, word)?;
@@ -88,7 +89,7 @@ impl Machine {
         into: u32,
     ) -> Result<(), Halt>
         requires { IsAt object.now self.old fun.now (instr.Project number slot word into) }
-        ensures { Answers object.now self.old self.new result (λ s. project object.now s number slot word into) }
+        ensures { MachineExecutes MayRunOut object.now self.old self.new result (λ s. project object.now s number slot word into) }
     {
         let callee = known_fun(object, number);
         let reach = self.store.hands_over(fun, callee, slot, word)?;
@@ -115,7 +116,8 @@ impl Machine {
         what: Start,
     ) -> Result<(), Halt>
         requires { CanStart object.now self.old fun.now callee.now what }
-        ensures { Answers object.now self.old self.new result (λ s. take_turn s (λ t. start t what.number callee.now what.slot (told_range what.reach.range) (told_role what.role))) }
+        ensures { MachineExecutes MayRunOut object.now self.old self.new result
+            (λ s. take_turn s (λ t. start t what.number callee.now what.slot (abstract_range what.reach.range) (abstract_role what.role))) }
     {
         let _object = object;
         let _fun = fun;
@@ -150,7 +152,7 @@ impl Machine {
         word: u32,
     ) -> Result<(), Halt>
         requires { IsAt object.now self.old fun.now (instr.Return word) }
-        ensures { Answers object.now self.old self.new result (λ s. leave s word) }
+        ensures { MachineExecutes MayRunOut object.now self.old self.new result (λ s. leave s word) }
     {
         let Some(caller) = self.acts.caller(self.running) else {
             return self.leave_main(alloc, object, fun, word);
@@ -185,7 +187,7 @@ impl Machine {
     ) -> Result<(), Halt>
         requires here { IsAt object.now self.old fun.now (instr.Return word) }
         requires none { HasCaller self.old None }
-        ensures { Answers object.now self.old self.new result (λ s. leave s word) }
+        ensures { MachineExecutes MayRunOut object.now self.old self.new result (λ s. leave s word) }
     {
         let _object = object;
         let counts = self.store.counts;

@@ -1,16 +1,16 @@
-// Instructions that change the store, behind which the next instruction of the same activation follows.
+// Instructions that change the store, after which the next instruction of the same activation follows.
 ghost use Rattle.std.specs.Prelude.{◌≡◌, length};
 ghost use Rattle.hy_object.specs.Grammar.{IsInstr, bounds_of};
 ghost use Rattle.hy_object.specs.Steps.{does};
-ghost use Rattle.hy_store.specs.Replies.{Replies};
-ghost use Rattle.hy_store.specs.Sees.{IsSeen};
+ghost use Rattle.hy_store.specs.Executes.{StoreExecutes};
+ghost use Rattle.hy_store.specs.Represents.{RepresentsSome};
+ghost use Rattle.hy_checked.specs.Instructions.{Arrays, ComesTo, Words, memory_of, part_of};
 
-use hy_base::RunCause;
 use hy_object::{Fun, Instr, Object};
 use hy_store::{Comparison, Exchange, Halt, Operation, Store};
 use std::alloc::Global;
 
-/// Does an instruction that changes the store alone.
+/// Does an instruction that changes the store alone: one on words, or one of those below.
 pub fn on_store(
     store: &mut Store,
     alloc: Global,
@@ -18,9 +18,10 @@ pub fn on_store(
     fun: &Fun,
     instr: Instr,
 ) -> Result<(), Halt>
-    requires seen { IsSeen store.old fun.now }
+    requires represented { RepresentsSome store.old fun.now }
+    requires comes { ComesTo Words (part_of instr) }
     requires allowed { IsInstr (bounds_of (length object.now.spans) (length object.now.funs) fun.now) instr }
-    ensures { Replies fun.now store.old store.new result (λ s. does object.now s instr) }
+    ensures { StoreExecutes (memory_of instr) fun.now store.old store.new result (λ s. does object.now s instr) }
 {
     match instr {
         Instr::Const { to, value } => store.constant(fun, to, value),
@@ -89,9 +90,10 @@ fn on_arrays(
     fun: &Fun,
     instr: Instr,
 ) -> Result<(), Halt>
-    requires seen { IsSeen store.old fun.now }
+    requires represented { RepresentsSome store.old fun.now }
+    requires comes { ComesTo Arrays (part_of instr) }
     requires allowed { IsInstr (bounds_of (length object.now.spans) (length object.now.funs) fun.now) instr }
-    ensures { Replies fun.now store.old store.new result (λ s. does object.now s instr) }
+    ensures { StoreExecutes (memory_of instr) fun.now store.old store.new result (λ s. does object.now s instr) }
 {
     match instr {
         Instr::NewArray { array } => store.new_array(alloc, fun, array),
@@ -137,6 +139,6 @@ fn on_arrays(
             way,
             span,
         } => store.lend_element(object, fun, slot, array, index, width, way, span),
-        _ => Err(Halt::Cut(RunCause::NoMemory)),
+        _ => unreachable!(),
     }
 }

@@ -1,111 +1,115 @@
--- What is told of each activation of a run of a checked core: one runs, others wait for one another, and others sleep.
+-- What is known of each activation of a run of a checked core: one runs, others wait for one another, and others sleep.
 use Rattle.std.proofs.Common.{◌≡◌, ◌≢◌, ◌⊎◌, inl, inr, ⊎_elim, ℕ, suc, ◌<◌, cond, List, [], ◌∷◌, length, Option, Some, None, refl, sym, ap, ◌∙◌, subst, arith}
 use Rattle.std.proofs.lemmas.Bool.Decides.{eqb_tells}
-use Rattle.hy_core.specs.Plain.{Place, Stmts, Fun}
+use Rattle.hy_core.specs.Plain.{Place, Stmts, Fun, lent_types}
 use Rattle.hy_core.specs.Memory.{Key, set_at, Way, Origin}
-use Rattle.hy_core.specs.Control.{Flags, Work, Idle, Rest, Loop, Test, Drops, Dest, Opens, Nowhere, Activation, Nap, Halt, Control, GivesUp, Setting, sleeper_of, wake}
+use Rattle.hy_core.specs.Control.{Flags, Work, Idle, Rest, Loop, Test, Drops, Dest, Opens, Nowhere, Activation, Nap, Halt, Control, GivesUp, Setting}
+use Rattle.hy_core.specs.Control.{sleeper_of, wake}
 use Rattle.hy_core.specs.Control as control
 use Rattle.hy_core.specs.Statements.{broken, continued}
 use Rattle.hy_core.specs.Typing.{Among, still}
 use Rattle.hy_core.specs.Shaped.{HasForm, ShapedAll}
-use Rattle.hy_core.specs.Told.{IsSet, Who, Mine, Held, Entry, Status, Own, Param, Opened, Bound, Face, Sign, Scene, set_local, with_status, all_set, IsShutAt, MayReadAt, MayWriteAt, IndexesOk, Leads, TellsAll, Around, NoLoop, InLoop, scene_of}
+use Rattle.hy_core.specs.Flow.{IsSet, Holder, InLocal, InSubscript, OpenPlace, Status, Own, Param, Opened, Bound, FlowState, Signature, Context, set_local}
+use Rattle.hy_core.specs.Flow.{with_status, all_set, IsShutAt, MayReadAt, MayWriteAt, IndexesOk, FlowsInto, TransfersAll, Around, NoLoop, InLoop}
+use Rattle.hy_core.specs.Flow.{context_of}
 use Rattle.hy_core.proofs.Keys.{key_dec, set_same, set_other, at_key}
-use Rattle.hy_core.proofs.CalmTalks.{Slots, at, Is, Listed, MineIn, View}
+use Rattle.hy_core.proofs.CalmWalks.{Slots, at, Is, Listed, LocalIn, View}
 
 abbrev pub Sleeping : Type 0
 Sleeping = Key → Option Activation
 
--- FACES that tell the same of what is open
+-- FLOW STATES that tell the same of what is open
 
 -- they tell the same of each local, and what is open in the first is open in the second
-pub record Passes (g d : Face) : Type 0 where
+pub record Passes (g d : FlowState) : Type 0 where
   pub status : (j : ℕ) → g.status j ≡ d.status j
-  pub entries : (e : Entry) → Among e g.entries → Among e d.entries
+  pub open_places : (e : OpenPlace) → Among e g.open_places → Among e d.open_places
 
-pub passes_self : (g : Face) → Passes g g
-passes_self g = record { status = λ j. refl; entries = λ e i. i }
+pub passes_self : (g : FlowState) → Passes g g
+passes_self g = record { status = λ j. refl; open_places = λ e i. i }
 
-pub passes_on : (g h d : Face) → Passes g h → Passes h d → Passes g d
-passes_on g h d a b = record { status = λ j. a.status j ∙ b.status j; entries = λ e i. b.entries e (a.entries e i) }
+pub passes_on : (g h d : FlowState) → Passes g h → Passes h d → Passes g d
+passes_on g h d a b = record { status = λ j. a.status j ∙ b.status j; open_places = λ e i. b.open_places e (a.open_places e i) }
 
-pub leads_pass : (x : Scene) (g d : Face) → Leads x g d → Passes g d
-leads_pass x g d l = record { status = l.status; entries = l.entries }
+pub flows_pass : (x : Context) (g d : FlowState) → FlowsInto x g d → Passes g d
+flows_pass x g d l = record { status = l.status; open_places = l.open_places }
 
 -- WORK
 
-module _ (x : Scene) where
-  abbrev pub AroundBy : Around x → (Face → Type 0) → (Face → Type 0) → Type 0
+module _ (x : Context) where
+  abbrev pub AroundBy : Around x → (FlowState → Type 0) → (FlowState → Type 0) → Type 0
   AroundBy NoLoop B A = Unit {0}
   AroundBy (InLoop behind again) B A = B behind × A again
 
-  -- a loop from its head on, where g is told; N is wanted behind it
-  pub record LoopTold (g : Face) (head : Stmts) (on : ℕ) (body : Stmts) (N : Face → Type 0) : Type 0 where
-    pub test : Face
-    pub out : Face
-    pub tells : TellsAll x NoLoop g head test
+  -- a loop from its head on, where g is known; N is wanted after it
+  pub record LoopFlows (g : FlowState) (head : Stmts) (on : ℕ) (body : Stmts) (N : FlowState → Type 0) : Type 0 where
+    pub test : FlowState
+    pub out : FlowState
+    pub transfers : TransfersAll x NoLoop g head test
     pub read : MayReadAt test on []
-    pub set : test.standing on [] ≡ IsSet
+    pub set : test.init on [] ≡ IsSet
     pub flag : HasForm x.core x.fun on Flags
-    pub pass : TellsAll x (InLoop out g) test body g
-    pub leaves : Leads x test out
+    pub pass : TransfersAll x (InLoop out g) test body g
+    pub leaves : FlowsInto x test out
     pub shaped_head : ShapedAll x.core x.fun head
     pub shaped_body : ShapedAll x.core x.fun body
     pub next : N out
 
-  pub record RestTold (g : Face) (ss : Stmts) (B A N : Face → Type 0) : Type 0 where
+  pub record RestFlows (g : FlowState) (ss : Stmts) (B A N : FlowState → Type 0) : Type 0 where
     pub around : Around x
-    pub last : Face
-    pub tells : TellsAll x around g ss last
+    pub last : FlowState
+    pub transfers : TransfersAll x around g ss last
     pub shaped : ShapedAll x.core x.fun ss
     pub outer : AroundBy around B A
     pub next : N last
 
-  pub record AtHead (g : Face) (head : Stmts) (on : ℕ) (body : Stmts) (N : Face → Type 0) : Type 0 where
-    pub first : Face
-    pub leads : Passes g first
-    pub loop : LoopTold first head on body N
+  pub record AtHead (g : FlowState) (head : Stmts) (on : ℕ) (body : Stmts) (N : FlowState → Type 0) : Type 0 where
+    pub first : FlowState
+    pub flows : Passes g first
+    pub loop : LoopFlows first head on body N
 
-  pub record AtTest (g : Face) (head : Stmts) (on : ℕ) (body : Stmts) (N : Face → Type 0) : Type 0 where
-    pub first : Face
-    pub loop : LoopTold first head on body N
-    pub leads : Passes g loop.test
+  pub record AtTest (g : FlowState) (head : Stmts) (on : ℕ) (body : Stmts) (N : FlowState → Type 0) : Type 0 where
+    pub first : FlowState
+    pub loop : LoopFlows first head on body N
+    pub flows : Passes g loop.test
 
-  -- what is left of a body, where g is told; behind its innermost loop; and at the next pass of that
+  -- what is left of a body, where g is known; after its innermost loop; and at the next pass of that
   abbrev mutual
-    pub WorkTold : Work → Face → Type 0
-    WorkTold Idle g = Unit {0}
-    WorkTold (Rest ss w) g = RestTold g ss (BreakTold w) (AgainTold w) (WorkTold w)
-    WorkTold (Loop head on body w) g = AtHead g head on body (WorkTold w)
-    WorkTold (Test head on body w) g = AtTest g head on body (WorkTold w)
-    WorkTold (Drops ts w) g = ⊥
+    pub WorkFlows : Work → FlowState → Type 0
+    WorkFlows Idle g = Unit {0}
+    WorkFlows (Rest ss w) g = RestFlows g ss (BreakFlows w) (AgainFlows w) (WorkFlows w)
+    WorkFlows (Loop head on body w) g = AtHead g head on body (WorkFlows w)
+    WorkFlows (Test head on body w) g = AtTest g head on body (WorkFlows w)
+    WorkFlows (Drops ts w) g = ⊥
 
-    pub BreakTold : Work → Face → Type 0
-    BreakTold Idle g = Unit {0}
-    BreakTold (Rest ss w) g = BreakTold w g
-    BreakTold (Loop head on body w) g = WorkTold w g
-    BreakTold (Test head on body w) g = Unit {0}
-    BreakTold (Drops ts w) g = Unit {0}
+    pub BreakFlows : Work → FlowState → Type 0
+    BreakFlows Idle g = Unit {0}
+    BreakFlows (Rest ss w) g = BreakFlows w g
+    BreakFlows (Loop head on body w) g = WorkFlows w g
+    BreakFlows (Test head on body w) g = Unit {0}
+    BreakFlows (Drops ts w) g = Unit {0}
 
-    pub AgainTold : Work → Face → Type 0
-    AgainTold Idle g = Unit {0}
-    AgainTold (Rest ss w) g = AgainTold w g
-    AgainTold (Loop head on body w) g = LoopTold g head on body (WorkTold w)
-    AgainTold (Test head on body w) g = Unit {0}
-    AgainTold (Drops ts w) g = Unit {0}
+    pub AgainFlows : Work → FlowState → Type 0
+    AgainFlows Idle g = Unit {0}
+    AgainFlows (Rest ss w) g = AgainFlows w g
+    AgainFlows (Loop head on body w) g = LoopFlows g head on body (WorkFlows w)
+    AgainFlows (Test head on body w) g = Unit {0}
+    AgainFlows (Drops ts w) g = Unit {0}
 
-  pub break_told : (w v : Work) (g : Face) → broken w ≡ Some v → BreakTold w g → WorkTold v g
-  break_told Idle v g e h = absurd (cc)
-  break_told (Rest ss w) v g e h = break_told w v g e h
-  break_told (Loop head on body w) v g e h = let z : w ≡ v = cc in subst (λ w. WorkTold w g) z h
-  break_told (Test head on body w) v g e h = absurd (cc)
-  break_told (Drops ts w) v g e h = absurd (cc)
+  pub break_flows : (w v : Work) (g : FlowState) → broken w ≡ Some v → BreakFlows w g → WorkFlows v g
+  break_flows Idle v g e h = absurd (cc)
+  break_flows (Rest ss w) v g e h = break_flows w v g e h
+  break_flows (Loop head on body w) v g e h = let z : w ≡ v = cc in subst (λ w. WorkFlows w g) z h
+  break_flows (Test head on body w) v g e h = absurd (cc)
+  break_flows (Drops ts w) v g e h = absurd (cc)
 
-  pub again_told : (w v : Work) (g : Face) → continued w ≡ Some v → AgainTold w g → WorkTold v g
-  again_told Idle v g e h = absurd (cc)
-  again_told (Rest ss w) v g e h = again_told w v g e h
-  again_told (Loop head on body w) v g e h = let z : Loop head on body w ≡ v = cc in subst (λ w. WorkTold w g) z (record { first = g; leads = passes_self g; loop = h })
-  again_told (Test head on body w) v g e h = absurd (cc)
-  again_told (Drops ts w) v g e h = absurd (cc)
+  pub again_flows : (w v : Work) (g : FlowState) → continued w ≡ Some v → AgainFlows w g → WorkFlows v g
+  again_flows Idle v g e h = absurd (cc)
+  again_flows (Rest ss w) v g e h = again_flows w v g e h
+  again_flows (Loop head on body w) v g e h = let z : Loop head on body w ≡ v = cc in
+      subst (λ w. WorkFlows w g) z (record { first = g; flows = passes_self g; loop = h })
+  again_flows (Test head on body w) v g e h = absurd (cc)
+  again_flows (Drops ts w) v g e h = absurd (cc)
 
 -- FRAMES
 
@@ -138,7 +142,7 @@ Extra (Sleeps x) k = k ≡ x
 
 abbrev pub HeldIn : Option Activation → Key → Type 0
 HeldIn None k = ⊥
-HeldIn (Some b) k = ParamOf b.id (length b.fun.lent) k
+HeldIn (Some b) k = ParamOf b.id (length (lent_types b.fun)) k
 
 abbrev pub PendingBy : ℕ → ℕ → Dest → ℕ → Key → Type 0
 PendingBy id lent (control.Result p) t k = ⊥
@@ -150,57 +154,60 @@ Pending Runs t k = ⊥
 Pending (Waits id lent v dest) t k = PendingBy id lent dest t k
 Pending (Sleeps x) t k = ⊥
 
-abbrev pub Fits : Sleeping → Top → ℕ → Who → Key → Type 0
-Fits asl top a (Mine j) k = k ≡ at a j
-Fits asl top a (Held t) k = HeldIn (asl (at a t)) k ⊎ Pending top t k
+abbrev pub Fits : Sleeping → Top → ℕ → Holder → Key → Type 0
+Fits asl top a (InLocal j) k = k ≡ at a j
+Fits asl top a (InSubscript t) k = HeldIn (asl (at a t)) k ⊎ Pending top t k
 
-abbrev pub Covers : Slots → ℕ → Face → (Key → Type 0) → (Who → Key → Type 0) → Type 0
-Covers slots a g X F = (k : Key) (o : Origin) → slots k ≡ Some o → o.base.act ≡ a → X k ⊎ Listed F g k o
+abbrev pub AllListed : Slots → ℕ → FlowState → (Key → Type 0) → (Holder → Key → Type 0) → Type 0
+AllListed slots a g X F = (k : Key) (o : Origin) → slots k ≡ Some o → o.base.act ≡ a → X k ⊎ Listed F g k o
 
-pub record Half (slots : Slots) (asl : Sleeping) (top : Top) (id lent : ℕ) (g : Face) : Type 0 where
+pub record Half (slots : Slots) (asl : Sleeping) (top : Top) (id lent : ℕ) (g : FlowState) : Type 0 where
   pub status : (j : ℕ) → Is (g.status j) (slots (at id j))
   pub slept : (j : ℕ) → Sl (g.status j) (asl (at id j))
   pub params : (j : ℕ) → j < lent → (v : Way) × (g.status j ≡ Param v)
-  pub covers : Covers slots id g (Extra top) (Fits asl top id)
+  pub all_listed : AllListed slots id g (Extra top) (Fits asl top id)
 
-pub listed_map : (F G : Who → Key → Type 0) (g d : Face) (k : Key) (o : Origin) → ((e : Entry) → Among e g.entries → F e.who k → Among e d.entries × G e.who k) → Listed F g k o → Listed G d k o
-listed_map F G g d k o f l = let r = f l.entry l.among l.fits in record { entry = l.entry; among = r.0; base = l.base; way = l.way; rest = l.rest; path = l.path; fits = r.1 }
+pub listed_map : (F G : Holder → Key → Type 0) (g d : FlowState) (k : Key) (o : Origin)
+    → ((e : OpenPlace) → Among e g.open_places → F e.holder k → Among e d.open_places × G e.holder k) → Listed F g k o → Listed G d k o
+listed_map F G g d k o f l = let r = f l.open_place l.among l.fits in
+    record { open_place = l.open_place; among = r.0; base = l.base; way = l.way; rest = l.rest; path = l.path; fits = r.1 }
 
-pub half_pass : (slots : Slots) (asl : Sleeping) (top : Top) (id lent : ℕ) (g d : Face) → Passes g d → Half slots asl top id lent g → Half slots asl top id lent d
+pub half_pass : (slots : Slots) (asl : Sleeping) (top : Top) (id lent : ℕ) (g d : FlowState) → Passes g d → Half slots asl top id lent g
+    → Half slots asl top id lent d
 half_pass slots asl top id lent g d l h = record {
   status = λ j. subst (λ s. Is s (slots (at id j))) (l.status j) (h.status j);
   slept = λ j. subst (λ s. Sl s (asl (at id j))) (l.status j) (h.slept j);
   params = λ j lt. let r = h.params j lt in (r.0, sym (l.status j) ∙ r.1);
-  covers = λ k o x b. ⊎_elim inl (λ y. inr (listed_map _ _ g d k o (λ e i t. (l.entries e i, t)) y)) (h.covers k o x b);
+  all_listed = λ k o x b. ⊎_elim inl (λ y. inr (listed_map _ _ g d k o (λ e i t. (l.open_places e i, t)) y)) (h.all_listed k o x b);
 }
 
-abbrev pub bind : Face → ℕ → Way → Face
+abbrev pub bind : FlowState → ℕ → Way → FlowState
 bind g t v = with_status g t (Bound v) all_set
 
--- what is told of a waiting body once it goes on
-pub record WritesBack (x : Scene) (g : Face) (w : Work) (place : Place) : Type 0 where
+-- what is known of a waiting body once it goes on
+pub record WritesBack (x : Context) (g : FlowState) (w : Work) (place : Place) : Type 0 where
   pub indexes : IndexesOk g place.steps
   pub free : MayWriteAt g place.local (still place.steps)
-  pub next : Face
+  pub next : FlowState
   pub passes : Passes g next
-  pub work : WorkTold x w next
+  pub work : WorkFlows x w next
 
-pub record Binds (x : Scene) (g : Face) (w : Work) (v : Way) (t : ℕ) : Type 0 where
+pub record Binds (x : Context) (g : FlowState) (w : Work) (v : Way) (t : ℕ) : Type 0 where
   pub own : g.status t ≡ Own
   pub shut : IsShutAt g t
-  pub next : Face
+  pub next : FlowState
   pub passes : Passes (bind g t v) next
-  pub work : WorkTold x w next
+  pub work : WorkFlows x w next
 
-abbrev pub GoesBy : Scene → Face → Work → Way → Dest → Type 0
+abbrev pub GoesBy : Context → FlowState → Work → Way → Dest → Type 0
 GoesBy x g w v (control.Result q) = WritesBack x g w q
 GoesBy x g w v (Opens t) = Binds x g w v t
-GoesBy x g w v Nowhere = WorkTold x w g
+GoesBy x g w v Nowhere = WorkFlows x w g
 
-abbrev pub Goes : Scene → Face → Work → Top → Type 0
-Goes x g w Runs = WorkTold x w g
+abbrev pub Goes : Context → FlowState → Work → Top → Type 0
+Goes x g w Runs = WorkFlows x w g
 Goes x g w (Waits id lent v dest) = GoesBy x g w v dest
-Goes x g w (Sleeps k) = WorkTold x w g
+Goes x g w (Sleeps k) = WorkFlows x w g
 
 abbrev pub NotIn : ℕ → List Activation → Type 0
 NotIn i [] = Unit {0}
@@ -229,30 +236,33 @@ pub record Change (i e : ℕ) (slots slots' : Slots) (asl asl' : Sleeping) : Typ
   pub base : (k : Key) (o : Origin) → slots' k ≡ Some o → o.base.act ≢ e → slots k ≡ Some o
   pub sleep : (x j : ℕ) → x ≢ i → asl' (at x j) ≡ asl (at x j)
 
-fits_keep : (asl asl' : Sleeping) (top : Top) (a : ℕ) → ((j : ℕ) → asl' (at a j) ≡ asl (at a j)) → (who : Who) (k : Key) → Fits asl top a who k → Fits asl' top a who k
-fits_keep asl asl' top a e (Mine j) k h = h
-fits_keep asl asl' top a e (Held t) k h = ⊎_elim (λ i. inl (subst (λ b. HeldIn b k) (sym (e t)) i)) inr h
+fits_keep : (asl asl' : Sleeping) (top : Top) (a : ℕ) → ((j : ℕ) → asl' (at a j) ≡ asl (at a j)) → (holder : Holder) (k : Key) → Fits asl top a holder k
+    → Fits asl' top a holder k
+fits_keep asl asl' top a e (InLocal j) k h = h
+fits_keep asl asl' top a e (InSubscript t) k h = ⊎_elim (λ i. inl (subst (λ b. HeldIn b k) (sym (e t)) i)) inr h
 
-pub half_keep : (slots slots' : Slots) (asl asl' : Sleeping) (i e : ℕ) (top : Top) (id lent : ℕ) (g : Face) → Change i e slots slots' asl asl' → id ≢ i → id ≢ e → Half slots asl top id lent g → Half slots' asl' top id lent g
+pub half_keep : (slots slots' : Slots) (asl asl' : Sleeping) (i e : ℕ) (top : Top) (id lent : ℕ) (g : FlowState) → Change i e slots slots' asl asl' → id ≢ i
+    → id ≢ e → Half slots asl top id lent g → Half slots' asl' top id lent g
 half_keep slots slots' asl asl' i e top id lent g ch ni ne h = record {
   status = λ j. subst (Is (g.status j)) (sym (ch.own id j ni)) (h.status j);
   slept = λ j. subst (Sl (g.status j)) (sym (ch.sleep id j ni)) (h.slept j);
   params = h.params;
-  covers = λ k o x b. ⊎_elim inl (λ l. inr (listed_map _ _ g g k o (λ en n t. (n, fits_keep asl asl' top id (λ j. ch.sleep id j ni) en.who k t)) l)) (h.covers k o (ch.base k o x (λ q. ne (sym b ∙ q))) b);
+  all_listed = λ k o x b. ⊎_elim inl (λ l. inr (listed_map _ _ g g k o (λ en n t. (n, fits_keep asl asl' top id (λ j. ch.sleep id j ni) en.holder k t)) l))
+      (h.all_listed k o (ch.base k o x (λ q. ne (sym b ∙ q))) b);
 }
 
-module _ (p : Setting) (signs : ℕ → Sign) where
-  abbrev pub scene : ℕ → Fun → Scene
-  scene n f = scene_of GivesUp p.core signs n f
+module _ (p : Setting) (signatures : ℕ → Signature) where
+  abbrev pub context : ℕ → Fun → Context
+  context n f = context_of GivesUp p.core signatures n f
 
   abbrev pub waits : Activation → ℕ → Top
-  waits a n = Waits a.id (length a.fun.lent) (signs n).yields a.dest
+  waits a n = Waits a.id (length (lent_types a.fun)) (signatures n).yields a.dest
 
   pub record Framed (slots : Slots) (asl : Sleeping) (top : Top) (a : Activation) : Type 0 where
     pub number : ℕ
-    pub face : Face
-    pub half : Half slots asl top a.id (length a.fun.lent) face
-    pub goes : Goes (scene number a.fun) face a.work top
+    pub flow : FlowState
+    pub half : Half slots asl top a.id (length (lent_types a.fun)) flow
+    pub goes : Goes (context number a.fun) flow a.work top
 
   abbrev pub CallersOk : Slots → Sleeping → Top → List Activation → Type 0
   CallersOk slots asl top [] = Unit {0}
@@ -281,14 +291,20 @@ module _ (p : Setting) (signs : ℕ → Sign) where
   pub record Stands (halt : Option Halt) (c : Control) (slots : Slots) : Type 0 where
     pub same : c.halt ≡ halt
     pub number : ℕ
-    pub face : Face
-    pub half : Half slots (sleeper_of c.asleep) Runs c.now.id (length c.now.fun.lent) face
-    pub goes : WorkTold (scene number c.now.fun) c.now.work face
+    pub flow : FlowState
+    pub half : Half slots (sleeper_of c.asleep) Runs c.now.id (length (lent_types c.now.fun)) flow
+    pub goes : WorkFlows (context number c.now.fun) c.now.work flow
     pub others : Others slots (sleeper_of c.asleep) c.now.id c.started (waits c.now number) c.callers
 
   module _ (slots slots' : Slots) (asl asl' : Sleeping) (i e : ℕ) (ch : Change i e slots slots' asl asl') where
     pub framed_keep : (top : Top) (a : Activation) → a.id ≢ i → a.id ≢ e → Framed slots asl top a → Framed slots' asl' top a
-    framed_keep top a ni ne h = record { number = h.number; face = h.face; half = half_keep slots slots' asl asl' i e top a.id (length a.fun.lent) h.face ch ni ne h.half; goes = h.goes }
+    framed_keep top a ni ne h =
+        record {
+          number = h.number;
+          flow = h.flow;
+          half = half_keep slots slots' asl asl' i e top a.id (length (lent_types a.fun)) h.flow ch ni ne h.half;
+          goes = h.goes;
+        }
 
     pub callers_keep : (top : Top) (rest : List Activation) → NotIn i rest → NotIn e rest → CallersOk slots asl top rest → CallersOk slots' asl' top rest
     unfolding framed_keep
@@ -297,7 +313,8 @@ module _ (p : Setting) (signs : ℕ → Sign) where
 
   -- the others, where what runs changes its own locals
   pub others_keep : (slots slots' : Slots) (asl : Sleeping) (id started : ℕ) (top : Top) (callers : List Activation) → Change id id slots slots' asl asl
-      → ((k : Key) (o : Origin) → slots' k ≡ Some o → (k.act < started) × (o.base.act < started)) → Others slots asl id started top callers → Others slots' asl id started top callers
+      → ((k : Key) (o : Origin) → slots' k ≡ Some o → (k.act < started) × (o.base.act < started)) → Others slots asl id started top callers
+      → Others slots' asl id started top callers
   others_keep slots slots' asl id started top callers ch below x = record {
     frames = callers_keep slots slots' asl asl id id ch top callers x.not_now x.not_now x.frames;
     sleepers = λ k b e. let s = x.sleepers k b e in record {
@@ -322,7 +339,8 @@ pub some_is : (a b : Origin) → Some a ≡ Some b → a ≡ b
 some_is a b e = cc
 
 pub at_local : (f : ℕ → Status) (l : ℕ) (s : Status) (j : ℕ) (P : Status → Type 0) → (j ≡ l → P s) → (j ≢ l → P (f j)) → P (set_local f l s j)
-at_local f l s j P a b = ⊎_elim (λ e. subst (λ x. P (cond x s (f j))) (sym e.0) (a e.1)) (λ e. subst (λ x. P (cond x s (f j))) (sym e.0) (b e.1)) (eqb_tells j l)
+at_local f l s j P a b =
+    ⊎_elim (λ e. subst (λ x. P (cond x s (f j))) (sym e.0) (a e.1)) (λ e. subst (λ x. P (cond x s (f j))) (sym e.0) (b e.1)) (eqb_tells j l)
 
 pub at_both : {A : Type 0} (f : ℕ → Status) (l : ℕ) (s : Status) (m : Key → A) (id : ℕ) (x : A) (j : ℕ) (P : Status → A → Type 0)
     → (j ≡ l → P s x) → (j ≢ l → P (f j) (m (at id j))) → P (set_local f l s j) (set_at m (at id l) x (at id j))
@@ -340,7 +358,8 @@ still_open slots l k o = at_key slots l None k (λ y. y ≡ Some o → (k ≢ l)
 pub open_change : (slots : Slots) (asl : Sleeping) (id l : ℕ) (new : Origin) → Change id new.base.act slots (set_at slots (at id l) (Some new)) asl asl
 open_change slots asl id l new = record {
   own = λ x j n. set_other slots (at id l) (Some new) (at x j) (other_act x j id l n);
-  base = λ k o h n. at_key slots (at id l) (Some new) k (λ y. y ≡ Some o → slots k ≡ Some o) (λ e y. absurd (n (ap (λ o. o.base.act) (sym (some_is new o y))))) (λ m y. y) h;
+  base = λ k o h n. at_key slots (at id l) (Some new) k (λ y. y ≡ Some o → slots k ≡ Some o)
+      (λ e y. absurd (n (ap (λ o. o.base.act) (sym (some_is new o y))))) (λ m y. y) h;
   sleep = λ x j n. refl;
 }
 
@@ -359,7 +378,8 @@ wake_at (x ∷ xs) k j = ⊎_elim
     (λ q. sym (subst (λ j. set_at (sleeper_of (x ∷ xs)) k None j ≡ None) (sym q) (set_same (sleeper_of (x ∷ xs)) k None)))
     (λ n. sym (set_other (sleeper_of (x ∷ xs)) k None j n ∙ set_other (sleeper_of xs) x.key (Some x.act) j (λ q. n (q ∙ e)))))
     (λ n. ap (λ l. sleeper_of l j) (stays n) ∙ at_key (sleeper_of (wake xs k)) x.key (Some x.act) j (λ y. y ≡ set_at (sleeper_of (x ∷ xs)) k None j)
-    (λ q. sym (set_other (sleeper_of (x ∷ xs)) k None j (λ r. n (sym q ∙ r)) ∙ subst (λ j. set_at (sleeper_of xs) x.key (Some x.act) j ≡ Some x.act) (sym q) (set_same (sleeper_of xs) x.key (Some x.act))))
+    (λ q. sym (set_other (sleeper_of (x ∷ xs)) k None j (λ r. n (sym q ∙ r))
+    ∙ subst (λ j. set_at (sleeper_of xs) x.key (Some x.act) j ≡ Some x.act) (sym q) (set_same (sleeper_of xs) x.key (Some x.act))))
     (λ m. wake_at xs k j ∙ at_key (sleeper_of xs) k None j (λ y. y ≡ set_at (sleeper_of (x ∷ xs)) k None j)
     (λ q. sym (subst (λ j. set_at (sleeper_of (x ∷ xs)) k None j ≡ None) (sym q) (set_same (sleeper_of (x ∷ xs)) k None)))
     (λ r. sym (set_other (sleeper_of (x ∷ xs)) k None j r ∙ set_other (sleeper_of xs) x.key (Some x.act) j m))))
@@ -374,12 +394,12 @@ wake_at (x ∷ xs) k j = ⊎_elim
 pub wake_is : (xs : List Nap) (k : Key) → sleeper_of (wake xs k) ≡ set_at (sleeper_of xs) k None
 wake_is xs k = λ i j. wake_at xs k j i
 
-pub view : (slots : Slots) (asl : Sleeping) (id lent : ℕ) (g : Face) → Half slots asl Runs id lent g → View slots id g
+pub view : (slots : Slots) (asl : Sleeping) (id lent : ℕ) (g : FlowState) → Half slots asl Runs id lent g → View slots id g
 view slots asl id lent g h = record {
   status = h.status;
-  listed = λ k o x b. ⊎_elim (λ e. absurd e) (λ l. listed_map _ _ g g k o (λ e i t. (i, mine e.who k t)) l) (h.covers k o x b);
+  listed = λ k o x b. ⊎_elim (λ e. absurd e) (λ l. listed_map _ _ g g k o (λ e i t. (i, mine e.holder k t)) l) (h.all_listed k o x b);
 }
   where
-    mine : (who : Who) (k : Key) → Fits asl Runs id who k → MineIn id who k
-    mine (Mine j) k t = λ _. ap (λ k. k.act) t
-    mine (Held j) k t = λ m. absurd m
+    mine : (holder : Holder) (k : Key) → Fits asl Runs id holder k → LocalIn id holder k
+    mine (InLocal j) k t = λ _. ap (λ k. k.act) t
+    mine (InSubscript j) k t = λ m. absurd m

@@ -1,60 +1,77 @@
--- Statements of a checked core that is told: each step is calm.
-use Rattle.std.proofs.Common.{◌≡◌, ◌≢◌, ℕ, suc, Bool, true, false, cond, if◌then◌else◌, List, [], ◌∷◌, ◌++◌, length, Option, Some, None, refl, sym, ap, ◌∙◌, subst}
-use Rattle.std.specs.Prelude.{ℤ, pos, neg_ℤ, not, int_lt, int_le}
+-- Statements of a checked core that has a flow: each step is calm.
+use Rattle.std.proofs.Common.{◌≡◌, ◌≢◌, ℕ, suc, Bool, true, false, cond, if◌then◌else◌, List, [], ◌∷◌, ◌++◌, length, Option, Some, None, refl, sym, ap, ◌∙◌}
+use Rattle.std.proofs.Common.{subst}
+use Rattle.hy_base.specs.declared.numbers.IntegerType.TheVariants.{Int}
+use Rattle.hy_base.specs.declared.run.TrapKind.{TrapKind}
+use Rattle.std.specs.Prelude.{Result, Ok, Err, ℤ, pos, not}
 use Rattle.hy_base.specs.declared.run.End.TheVariants as end
 use Rattle.hy_base.specs.declared.run.TrapKind.TheVariants as trap
-use Rattle.hy_core.specs.Plain.{Place, Operator, Add, Sub, Mul, Div, Rem, Neg, Eq, Lt, Le, Not, NewArray, Push, Pop, Swap, Count, FreeArray, Print, Read, Check}
+use Rattle.hy_core.specs.Plain.{Place, Operator, Add, Sub, Mul, Div, Rem, Neg, Convert, Eq, Lt, Le, Not, NewArray, Push, Pop, Swap, Count, FreeArray, Print}
+use Rattle.hy_core.specs.Plain.{Read, Check, lent_types}
 use Rattle.hy_core.specs.Values.{Val, Number, Truth, Array, Vals, No, And, many}
 use Rattle.hy_core.specs.Memory.{Key, Spot, Way, Reads, Writes}
-use Rattle.hy_core.specs.Runs as op
-use Rattle.hy_core.specs.Runs.{Talk, Ask, Look, Tell, Next, apply, interpret, steps}
+use Rattle.hy_core.specs.Runs as effect
+use Rattle.hy_core.specs.Runs.{Interaction, Fetch, Inspect, Perform, Return, apply, interpret, steps}
 use Rattle.hy_base.specs.Lines.{Got, read_line}
 use Rattle.hy_base.specs.Lines as lines
-use Rattle.hy_core.specs.Operators.{Result, Gives, Traps, fitting, equal, line_of, index_in, at_end, popped}
+use Rattle.hy_core.specs.Operators.{line_of, index_in, at_end, popped}
 use Rattle.hy_core.specs.Calm.{MayWrite}
-use Rattle.hy_core.specs.Control.{Work, Ends, Stuck, Control, Setting, with_work, with_some, trapped, read, take, write, read_number, read_flag, read_array, sleeper_of}
-use Rattle.hy_core.specs.Statements.{with_one, with_two, with_three, store_to, give, arithmetic, compares, pop, swapped, swap, prints, reads, built}
+use Rattle.hy_core.specs.Control.{Work, Ends, Stuck, Control, Setting, with_work, with_some, trapped, read, take, write, read_number, read_flag, read_array}
+use Rattle.hy_core.specs.Control.{sleeper_of}
+use Rattle.hy_core.specs.Statements.{changes_one, with_one, with_two, with_three, store_to, give, arithmetic, compares, pop, swapped, swap, prints, reads}
+use Rattle.hy_core.specs.Statements.{built}
 use Rattle.hy_core.specs.Typing.{Among, all, still}
-use Rattle.hy_core.specs.Told.{Who, Mine, Held, Entry, Loan, Status, Own, Param, Opened, Bound, Face, Sign, Scene, set_local, with_standing, with_status, with_entry, IsOpen, none_set, all_set, is_exact, IsShutAt, MayReadAt, MayWriteAt, MayOpenAt, IndexesOk, ReadOk, ChangeOk, StoreOk, GiveOk, TakeOk, given, stored_if, stored, Leads, Stores, Computes, opened, LendOk, come_back, Without, Closes, Slides, HandOk, HandsOk, come_from, held_by, TakesOk, all_given, Calls, Projects, IsLast, TellsBuilt, Around, NoLoop, InLoop, TellsAll, Tells, first_status, first, TellsBody, Told}
-use Rattle.hy_core.specs.Told as told
+use Rattle.hy_core.specs.Flow.{Holder, InLocal, InSubscript, OpenPlace, Loan, Status, Own, Param, Opened, Bound, FlowState, Signature, Context, set_local}
+use Rattle.hy_core.specs.Flow.{with_init, with_status, with_open_place, IsOpen, none_set, all_set, is_exact, IsShutAt, MayReadAt, MayWriteAt, MayOpenAt}
+use Rattle.hy_core.specs.Flow.{IndexesOk, ReadOk, ChangeOk, StoreOk, GiveOk, TakeOk, given, stored_if, stored, FlowsInto, Stores, Computes, opened, LendOk}
+use Rattle.hy_core.specs.Flow.{come_back, Without, Closes, Slides, HandOk, HandsOk, come_from, held_by, TakesOk, all_given, Calls, Projects, IsLast}
+use Rattle.hy_core.specs.Flow.{TransfersBuilt, Around, NoLoop, InLoop, TransfersAll, Transfers, first_status, first, BodyFlows, HasFlow}
+use Rattle.hy_core.specs.Flow as transfer
 use Rattle.hy_core.proofs.OpenPlaces.{Sound}
-use Rattle.hy_core.proofs.CalmTalks.{Slots, at, mem, over, stands, Good, GoodAt, View, exact_indexes, good_tell, good_some, good_trap, good_index, may_write, good_read, good_take, good_write, good_read_number, good_read_flag, good_read_array}
-use Rattle.hy_core.proofs.CalmFrames.{Sleeping, Passes, passes_self, passes_on, leads_pass, WorkTold, Runs, Half, half_pass, scene, waits, Others, Stands, view}
+use Rattle.hy_core.proofs.CalmWalks.{Slots, at, mem, over, stands, Good, GoodAt, View, exact_indexes, good_tell, good_some, good_trap, good_index}
+use Rattle.hy_core.proofs.CalmWalks.{may_write, good_read, good_take, good_write, good_read_number, good_read_flag, good_read_array}
+use Rattle.hy_core.proofs.CalmFrames.{Sleeping, Passes, passes_self, passes_on, flows_pass, WorkFlows, Runs, Half, half_pass, context, waits, Others}
+use Rattle.hy_core.proofs.CalmFrames.{Stands, view}
 use Rattle.hy_core.proofs.CalmSteps.{Like, like_with, like_count, like_id, like_stands}
 
--- FACES that tell the same of what is open
+-- FLOW STATES that tell the same of what is open
 
-pub given_pass : (x : Scene) (g : Face) (q : Place) → Passes g (given x g q)
-given_pass x g q = record { status = λ j. refl; entries = λ e i. i }
+pub given_pass : (x : Context) (g : FlowState) (q : Place) → Passes g (given x g q)
+given_pass x g q = record { status = λ j. refl; open_places = λ e i. i }
 
-pub stored_pass : (x : Scene) (g : Face) (q : Place) → Passes g (stored x g q)
+pub stored_pass : (x : Context) (g : FlowState) (q : Place) → Passes g (stored x g q)
 stored_pass x g q = go (is_exact q.steps)
   where
     go : (b : Bool) → Passes g (stored_if x g q b)
-    go true = record { status = λ j. refl; entries = λ e i. i }
+    go true = record { status = λ j. refl; open_places = λ e i. i }
     go false = passes_self g
 
-pub all_given_pass : (x : Scene) (g : Face) (qs : List Place) → Passes g (all_given x g qs)
+pub all_given_pass : (x : Context) (g : FlowState) (qs : List Place) → Passes g (all_given x g qs)
 all_given_pass x g [] = passes_self g
 all_given_pass x g (q ∷ qs) = passes_on g (given x g q) (all_given x (given x g q) qs) (given_pass x g q) (all_given_pass x (given x g q) qs)
 
-pub come_from_pass : (x : Scene) (g : Face) (s : Sign) (i : ℕ) (ls : List ℕ) → Passes g (come_from x g s i ls)
+pub come_from_pass : (x : Context) (g : FlowState) (s : Signature) (i : ℕ) (ls : List ℕ) → Passes g (come_from x g s i ls)
 come_from_pass x g s i [] = passes_self g
-come_from_pass x g s i (l ∷ ls) = passes_on g (with_standing g l [] (s.lent i).behind) _ (record { status = λ j. refl; entries = λ e i. i }) (come_from_pass x (with_standing g l [] (s.lent i).behind) s (suc i) ls)
+come_from_pass x g s i (l ∷ ls) =
+    passes_on g (with_init g l [] (s.lent i).after) _ (record { status = λ j. refl; open_places = λ e i. i })
+    (come_from_pass x (with_init g l [] (s.lent i).after) s (suc i) ls)
 
-pub come_from_back : (x : Scene) (g : Face) (s : Sign) (i : ℕ) (ls : List ℕ) → Passes (come_from x g s i ls) g
+pub come_from_back : (x : Context) (g : FlowState) (s : Signature) (i : ℕ) (ls : List ℕ) → Passes (come_from x g s i ls) g
 come_from_back x g s i [] = passes_self g
-come_from_back x g s i (l ∷ ls) = passes_on (come_from x (with_standing g l [] (s.lent i).behind) s (suc i) ls) (with_standing g l [] (s.lent i).behind) g (come_from_back x (with_standing g l [] (s.lent i).behind) s (suc i) ls) (record { status = λ j. refl; entries = λ e i. i })
+come_from_back x g s i (l ∷ ls) =
+    passes_on (come_from x (with_init g l [] (s.lent i).after) s (suc i) ls) (with_init g l [] (s.lent i).after) g
+    (come_from_back x (with_init g l [] (s.lent i).after) s (suc i) ls) (record { status = λ j. refl; open_places = λ e i. i })
 
 -- a local ends: it is the body's own again, and what stood for it is no more open
-pub record Ended (who : Who) (l : ℕ) (g d : Face) : Type 0 where
+pub record Ended (holder : Holder) (l : ℕ) (g d : FlowState) : Type 0 where
   pub status : (j : ℕ) → set_local g.status l Own j ≡ d.status j
-  pub entries : (e : Entry) → Among e g.entries → e.who ≢ who → Among e d.entries
+  pub open_places : (e : OpenPlace) → Among e g.open_places → e.holder ≢ holder → Among e d.open_places
 
-pub closes_end : (x : Scene) (g : Face) (l : ℕ) (o : Loan) (d : Face) → ((h : Face) × Without x (Mine l) (with_status (come_back x g l o o.way o.exact) l Own none_set) h × Leads x h d) → Ended (Mine l) l g d
+pub closes_end : (x : Context) (g : FlowState) (l : ℕ) (o : Loan) (d : FlowState)
+    → ((h : FlowState) × Without x (InLocal l) (with_status (come_back x g l o o.way o.exact) l Own none_set) h × FlowsInto x h d) → Ended (InLocal l) l g d
 closes_end x g l o d t = record {
   status = λ j. ap (λ s. set_local s l Own j) (sym (same o.way o.exact)) ∙ sym (ap (λ s. s j) t.1.status) ∙ t.2.status j;
-  entries = λ e i n. t.2.entries e (t.1.entries e (subst (Among e) (sym (same_entries o.way o.exact)) i) n);
+  open_places = λ e i n. t.2.open_places e (t.1.open_places e (subst (Among e) (sym (same_open_places o.way o.exact)) i) n);
 }
   where
     same : (w : Way) (b : Bool) → (come_back x g l o w b).status ≡ g.status
@@ -62,202 +79,255 @@ closes_end x g l o d t = record {
     same Writes true = refl
     same Writes false = refl
 
-    same_entries : (w : Way) (b : Bool) → (come_back x g l o w b).entries ≡ g.entries
-    same_entries Reads b = refl
-    same_entries Writes true = refl
-    same_entries Writes false = refl
+    same_open_places : (w : Way) (b : Bool) → (come_back x g l o w b).open_places ≡ g.open_places
+    same_open_places Reads b = refl
+    same_open_places Writes true = refl
+    same_open_places Writes false = refl
 
-pub slides_end : (x : Scene) (g : Face) (l : ℕ) (d : Face) → ((h : Face) × Without x (Held l) (with_status g l Own none_set) h × Leads x h d) → Ended (Held l) l g d
-slides_end x g l d t = record { status = λ j. sym (ap (λ s. s j) t.1.status) ∙ t.2.status j; entries = λ e i n. t.2.entries e (t.1.entries e i n) }
+pub slides_end : (x : Context) (g : FlowState) (l : ℕ) (d : FlowState)
+    → ((h : FlowState) × Without x (InSubscript l) (with_status g l Own none_set) h × FlowsInto x h d) → Ended (InSubscript l) l g d
+slides_end x g l d t = record { status = λ j. sym (ap (λ s. s j) t.1.status) ∙ t.2.status j; open_places = λ e i n. t.2.open_places e (t.1.open_places e i n) }
 
-module _ (p : Setting) (signs : ℕ → Sign) (c : Control) (slots : Slots) (number : ℕ) (g : Face) where
+module _ (p : Setting) (signatures : ℕ → Signature) (c : Control) (slots : Slots) (number : ℕ) (g : FlowState) where
   abbrev pub asl : Sleeping
   asl = sleeper_of c.asleep
 
-  abbrev pub x : Scene
-  x = scene p signs number c.now.fun
+  abbrev pub x : Context
+  x = context p signatures number c.now.fun
 
-  abbrev pub HalfOf : Slots → Face → Type 0
-  HalfOf slots d = Half slots (sleeper_of c.asleep) Runs c.now.id (length c.now.fun.lent) d
+  abbrev pub HalfOf : Slots → FlowState → Type 0
+  HalfOf slots d = Half slots (sleeper_of c.asleep) Runs c.now.id (length (lent_types c.now.fun)) d
 
   abbrev pub OthersOf : Slots → Type 0
-  OthersOf slots = Others p signs slots (sleeper_of c.asleep) c.now.id c.started (waits p signs c.now number) c.callers
+  OthersOf slots = Others p signatures slots (sleeper_of c.asleep) c.now.id c.started (waits p signatures c.now number) c.callers
 
   abbrev pub TS : Control → Slots → Type 0
-  TS = Stands p signs c.halt
+  TS = Stands p signatures c.halt
 
   module _ (half : HalfOf slots g) (others : OthersOf slots) where
-    -- with what is left told
-    abbrev pub Left : Face → Type 0
-    Left d = WorkTold (scene p signs number c.now.fun) c.now.work d
+    -- with a flow for what is left
+    abbrev pub Left : FlowState → Type 0
+    Left d = WorkFlows (context p signatures number c.now.fun) c.now.work d
 
-    pub fine : (d : Face) → Passes g d → Left d → (e : Control) → Like c e → GoodAt TS (Next e) slots
-    fine d l w e k vals s = stands (like_stands p signs c.halt c e slots k (record { same = refl; number = number; face = d; half = half_pass slots (sleeper_of c.asleep) Runs c.now.id (length c.now.fun.lent) g d l half; goes = w; others = others }))
+    pub fine : (d : FlowState) → Passes g d → Left d → (e : Control) → Like c e → GoodAt TS (Return e) slots
+    fine d l w e k vals s =
+        stands (like_stands p signatures c.halt c e slots k (record {
+          same = refl;
+          number = number;
+          flow = d;
+          half =
+              half_pass slots (sleeper_of c.asleep) Runs c.now.id (length (lent_types c.now.fun)) g d l half;
+          goes = w;
+          others = others;
+        }))
 
     -- with other work
-    pub fine_work : (d : Face) (w : Work) → Passes g d → WorkTold (scene p signs number c.now.fun) w d → GoodAt TS (Next (with_work c w)) slots
-    fine_work d w l t vals s = stands (record { same = refl; number = number; face = d; half = half_pass slots (sleeper_of c.asleep) Runs c.now.id (length c.now.fun.lent) g d l half; goes = t; others = others })
+    pub fine_work : (d : FlowState) (w : Work) → Passes g d → WorkFlows (context p signatures number c.now.fun) w d → GoodAt TS (Return (with_work c w)) slots
+    fine_work d w l t vals s =
+        stands (record {
+          same = refl;
+          number = number;
+          flow = d;
+          half =
+              half_pass slots (sleeper_of c.asleep) Runs c.now.id (length (lent_types c.now.fun)) g d l half;
+          goes = t;
+          others = others;
+        })
 
-    pub V : (d : Face) → Passes g d → View slots c.now.id d
-    V d l = view slots (sleeper_of c.asleep) c.now.id (length c.now.fun.lent) d (half_pass slots (sleeper_of c.asleep) Runs c.now.id (length c.now.fun.lent) g d l half)
+    pub V : (d : FlowState) → Passes g d → View slots c.now.id d
+    V d l = view slots (sleeper_of c.asleep) c.now.id (length (lent_types c.now.fun)) d
+        (half_pass slots (sleeper_of c.asleep) Runs c.now.id (length (lent_types c.now.fun)) g d l half)
 
     -- whatever is counted
-    abbrev pub Always : (Control → Talk Control) → Type 0
+    abbrev pub Always : (Control → Interaction Control) → Type 0
     Always go = (e : Control) → Like c e → GoodAt TS (go e) slots
 
-    module _ (d : Face) (l : Passes g d) where
-      pub takes : (q : Place) (go : Control → Val → Talk Control) → TakeOk x d q → ((v : Val) → Always (λ e. go e v)) → Always (λ e. take p e q go)
-      takes q go ok next e k = good_take p TS slots d c.now.id (V d l) (Like c) (like_count c) (like_id c) q go ok.give.exact ok.give.free (λ e v k. next v e k) e k
+    module _ (d : FlowState) (l : Passes g d) where
+      pub takes : (q : Place) (go : Control → Val → Interaction Control) → TakeOk x d q → ((v : Val) → Always (λ e. go e v)) → Always (λ e. take p e q go)
+      takes q go ok next e k =
+          good_take p TS slots d c.now.id (V d l) (Like c) (like_count c) (like_id c) q go ok.give.exact ok.give.free (λ e v k. next v e k) e k
 
-      pub values : (q : Place) (go : Control → Val → Talk Control) → ReadOk x d q → ((v : Val) → Always (λ e. go e v)) → Always (λ e. read p e q go)
+      pub values : (q : Place) (go : Control → Val → Interaction Control) → ReadOk x d q → ((v : Val) → Always (λ e. go e v)) → Always (λ e. read p e q go)
       values q go ok next e k = good_read p TS slots d c.now.id (V d l) (Like c) (like_count c) (like_id c) q go ok.indexes ok.free (λ e v k. next v e k) e k
 
-      pub numbers : (q : Place) (go : Control → ℤ → Talk Control) → ReadOk x d q → ((i : ℤ) → Always (λ e. go e i)) → Always (λ e. read_number p e q go)
-      numbers q go ok next e k = good_read_number p TS slots d c.now.id (V d l) (Like c) (like_count c) (like_id c) q go ok.indexes ok.free (λ e v k. next v e k) e k
+      pub numbers : (q : Place) (go : Control → ℤ → Interaction Control) → ReadOk x d q → ((i : ℤ) → Always (λ e. go e i)) → Always (λ e. read_number p e q go)
+      numbers q go ok next e k =
+          good_read_number p TS slots d c.now.id (V d l) (Like c) (like_count c) (like_id c) q go ok.indexes ok.free (λ e v k. next v e k) e k
 
-      pub flags : (q : Place) (go : Control → Bool → Talk Control) → ReadOk x d q → ((i : Bool) → Always (λ e. go e i)) → Always (λ e. read_flag p e q go)
-      flags q go ok next e k = good_read_flag p TS slots d c.now.id (V d l) (Like c) (like_count c) (like_id c) q go ok.indexes ok.free (λ e v k. next v e k) e k
+      pub flags : (q : Place) (go : Control → Bool → Interaction Control) → ReadOk x d q → ((i : Bool) → Always (λ e. go e i))
+          → Always (λ e. read_flag p e q go)
+      flags q go ok next e k =
+          good_read_flag p TS slots d c.now.id (V d l) (Like c) (like_count c) (like_id c) q go ok.indexes ok.free (λ e v k. next v e k) e k
 
-      pub writes : (q : Place) (v : Val) (go : Control → Talk Control) → StoreOk x d q → Always go → Always (λ e. write p e q v go)
+      pub writes : (q : Place) (v : Val) (go : Control → Interaction Control) → StoreOk x d q → Always go → Always (λ e. write p e q v go)
       writes q v go ok next e k = good_write p TS slots d c.now.id (V d l) (Like c) (like_count c) (like_id c) q v go ok.indexes ok.free next e k
 
-      pub counts : (q : Place) (go : Control → Spot → Vals → Talk Control) → ReadOk x d q → ((s : Spot) (vs : Vals) → Always (λ e. go e s vs)) → Always (λ e. read_array p e q go)
-      counts q go ok next e k = good_read_array p TS slots d c.now.id (V d l) (Like c) (like_count c) (like_id c) Reads q go ok.indexes ok.free (λ e u vs vals k s b there. next _ vs e k vals s) e k
+      pub counts : (q : Place) (go : Control → Spot → Vals → Interaction Control) → ReadOk x d q → ((s : Spot) (vs : Vals) → Always (λ e. go e s vs))
+          → Always (λ e. read_array p e q go)
+      counts q go ok next e k =
+          good_read_array p TS slots d c.now.id (V d l) (Like c) (like_count c) (like_id c) Reads q go ok.indexes ok.free
+          (λ e u vs vals k s b there. next _ vs e k vals s) e k
 
       -- an array that may be changed
-      pub arrays : (q : Place) (go : Control → Spot → Vals → Talk Control) → IndexesOk d q.steps → MayWriteAt d q.local (still q.steps)
-          → ((s : Spot) (vs : Vals) (e : Control) (vals : Key → Val) → Like c e → Sound (mem slots vals) → MayWrite (mem slots vals) s → Good TS (go e s vs) (mem slots vals)) → Always (λ e. read_array p e q go)
+      pub arrays : (q : Place) (go : Control → Spot → Vals → Interaction Control) → IndexesOk d q.steps → MayWriteAt d q.local (still q.steps)
+          → ((s : Spot) (vs : Vals) (e : Control) (vals : Key → Val) → Like c e → Sound (mem slots vals) → MayWrite (mem slots vals) s
+          → Good TS (go e s vs) (mem slots vals)) → Always (λ e. read_array p e q go)
       arrays q go idx free next e k = good_read_array p TS slots d c.now.id (V d l) (Like c) (like_count c) (like_id c) Writes q go idx free
-          (λ e u vs vals k s b there. next (record { key = at c.now.id q.local; path = u }) vs e vals k s (may_write p TS slots d c.now.id (V d l) (Like c) (like_count c) (like_id c) vals q.local (still q.steps) u free b there)) e k
+          (λ e u vs vals k s b there. next (record { key = at c.now.id q.local; path = u }) vs e vals k s
+          (may_write p TS slots d c.now.id (V d l) (Like c) (like_count c) (like_id c) vals q.local (still q.steps) u free b there)) e k
 
     -- OPERATIONS
 
-    pub stores : (h : Face) → Passes g h → (to : Option Place) (d : Face) → Stores x h to d → Left d → (v : Val) → Always (λ e. store_to p e to v)
+    pub stores : (h : FlowState) → Passes g h → (to : Option Place) (d : FlowState) → Stores x h to d → Left d → (v : Val) → Always (λ e. store_to p e to v)
     stores h l None d t w v = absurd t
-    stores h l (Some to) d t w v = writes h l to v Next t.0 (fine d (passes_on g h d l (passes_on h (stored x h to) d (stored_pass x h to) (leads_pass x _ d t.1))) w)
+    stores h l (Some to) d t w v =
+        writes h l to v Return t.0 (fine d (passes_on g h d l (passes_on h (stored x h to) d (stored_pass x h to) (flows_pass x _ d t.1))) w)
 
-    reads_of : (to : Option Place) (from : List Place) (d : Face) → Computes x g to from d → all (ReadOk x g) from
+    reads_of : (to : Option Place) (from : List Place) (d : FlowState) → Computes x g to from d → all (ReadOk x g) from
     reads_of None from d t = t.0
     reads_of (Some to) from d t = t.0
 
-    passes_of : (to : Option Place) (from : List Place) (d : Face) → Computes x g to from d → Passes g d
-    passes_of None from d t = leads_pass x g d t.1
-    passes_of (Some to) from d t = let s : Stores x g (Some to) d = t.1 in passes_on g (stored x g to) d (stored_pass x g to) (leads_pass x _ d s.1)
+    passes_of : (to : Option Place) (from : List Place) (d : FlowState) → Computes x g to from d → Passes g d
+    passes_of None from d t = flows_pass x g d t.1
+    passes_of (Some to) from d t = let s : Stores x g (Some to) d = t.1 in passes_on g (stored x g to) d (stored_pass x g to) (flows_pass x _ d s.1)
 
-    store_of : (to : Option Place) (from : List Place) (d : Face) → Computes x g to from d → Left d → (v : Val) → Always (λ e. store_to p e to v)
+    store_of : (to : Option Place) (from : List Place) (d : FlowState) → Computes x g to from d → Left d → (v : Val) → Always (λ e. store_to p e to v)
     store_of None from d t w v = λ e k vals s. over Stuck refl (λ e. absurd (cc))
     store_of (Some to) from d t w v = stores g (passes_self g) (Some to) d t.1 w v
 
-    one_of : {A : Type 0} (P : A → Type 0) (e : Control) (xs : List A) (go : A → Talk Control) → all P xs → ((a : A) → P a → GoodAt TS (go a) slots) → GoodAt TS (with_one e xs go) slots
+    one_of : {A : Type 0} (P : A → Type 0) (e : Control) (xs : List A) (go : A → Interaction Control) → all P xs → ((a : A) → P a → GoodAt TS (go a) slots)
+        → GoodAt TS (with_one e xs go) slots
     one_of P e [] go ok h = λ vals s. over Stuck refl (λ e. absurd (cc))
     one_of P e (a ∷ []) go ok h = h a ok.0
     one_of P e (a ∷ (b ∷ as')) go ok h = λ vals s. over Stuck refl (λ e. absurd (cc))
 
-    two_of : {A : Type 0} (P : A → Type 0) (e : Control) (xs : List A) (go : A → A → Talk Control) → all P xs → ((a b : A) → P a → P b → GoodAt TS (go a b) slots) → GoodAt TS (with_two e xs go) slots
+    two_of : {A : Type 0} (P : A → Type 0) (e : Control) (xs : List A) (go : A → A → Interaction Control) → all P xs
+        → ((a b : A) → P a → P b → GoodAt TS (go a b) slots) → GoodAt TS (with_two e xs go) slots
     two_of P e [] go ok h = λ vals s. over Stuck refl (λ e. absurd (cc))
     two_of P e (a ∷ as') go ok h = one_of P e as' (go a) ok.1 (λ b okb. h a b ok.0 okb)
 
-    one_span : {A : Type 0} (e : Control) (xs : List A) (go : A → Talk Control) → ((a : A) → GoodAt TS (go a) slots) → GoodAt TS (with_one e xs go) slots
+    one_span : {A : Type 0} (e : Control) (xs : List A) (go : A → Interaction Control)
+        → ((a : A) → GoodAt TS (go a) slots) → GoodAt TS (with_one e xs go) slots
     one_span e [] go h = λ vals s. over Stuck refl (λ e. absurd (cc))
     one_span e (a ∷ []) go h = h a
     one_span e (a ∷ (b ∷ as')) go h = λ vals s. over Stuck refl (λ e. absurd (cc))
 
-    two_spans : {A : Type 0} (e : Control) (xs : List A) (go : A → A → Talk Control) → ((a b : A) → GoodAt TS (go a b) slots) → GoodAt TS (with_two e xs go) slots
+    two_spans : {A : Type 0} (e : Control) (xs : List A) (go : A → A → Interaction Control) → ((a b : A) → GoodAt TS (go a b) slots)
+        → GoodAt TS (with_two e xs go) slots
     two_spans e [] go h = λ vals s. over Stuck refl (λ e. absurd (cc))
     two_spans e (a ∷ as') go h = one_span e as' (go a) (h a)
 
-    pub some_at : {A : Type 0} (e : Control) (o : Option A) (go : A → Talk Control) → ((a : A) → GoodAt TS (go a) slots) → GoodAt TS (with_some e o go) slots
+    pub some_at : {A : Type 0} (e : Control) (o : Option A) (go : A → Interaction Control) → ((a : A) → GoodAt TS (go a) slots)
+        → GoodAt TS (with_some e o go) slots
     some_at e o go h vals s = good_some p TS e o go (mem slots vals) (λ a _. h a vals s)
 
-    module _ (to : Option Place) (from : List Place) (d : Face) (t : Computes x g to from d) (w : Left d) where
-      gives : (s : ℕ) (r : Result) → Always (λ e. give p e to s r)
-      gives s (Gives n) = λ e k. store_of to from d t w (Number n) e k
-      gives s (Traps kind) = λ e k vals y. good_trap p TS e kind s (mem slots vals)
+    module _ (to : Option Place) (from : List Place) (d : FlowState) (t : Computes x g to from d) (w : Left d) where
+      gives : (s : ℕ) (r : Result Val TrapKind) → Always (λ e. give p e to s r)
+      gives s (Ok v) = λ e k. store_of to from d t w v e k
+      gives s (Err kind) = λ e k vals y. good_trap p TS e kind s (mem slots vals)
 
-      two_numbers : (e : Control) → Like c e → (go : Control → ℤ → ℤ → Talk Control) → ((i j : ℤ) → Always (λ e. go e i j))
-          → (a b : Place) → ReadOk x g a → ReadOk x g b → GoodAt TS (read_number p e a (λ e i. read_number p e b (λ e j. go e i j))) slots
-      two_numbers e k go next a b oka okb = numbers g (passes_self g) a _ oka (λ i. numbers g (passes_self g) b _ okb (λ j. next i j)) e k
+      calculates : (spans : List ℕ) (f : Val → Val → Option (Result Val TrapKind)) → Always (λ e. arithmetic p e to from spans f)
+      calculates spans f e k = two_of (ReadOk x g) e from _ (reads_of to from d t) (λ a b oka okb. one_span e spans _ (λ s.
+          values g (passes_self g) a _ oka (λ v. values g (passes_self g) b _ okb (λ u e k.
+          some_at e (f v u) _ (λ r. gives s r e k))) e k))
 
-      calculates : (spans : List ℕ) (f : ℤ → ℤ → Result) → Always (λ e. arithmetic p e to from spans f)
-      calculates spans f e k = two_of (ReadOk x g) e from _ (reads_of to from d t) (λ a b oka okb. one_span e spans _ (λ s. two_numbers e k (λ e i j. give p e to s (f i j)) (λ i j. gives s (f i j)) a b oka okb))
+      changes : (spans : List ℕ) (f : Val → Option (Result Val TrapKind)) → Always (λ e. changes_one p e to from spans f)
+      changes spans f e k = one_of (ReadOk x g) e from _ (reads_of to from d t) (λ a ok. one_span e spans _ (λ s.
+          values g (passes_self g) a _ ok (λ v e k. some_at e (f v) _ (λ r. gives s r e k)) e k))
 
-      comparing : (f : ℤ → ℤ → Bool) → Always (λ e. compares p e to from f)
-      comparing f e k = two_of (ReadOk x g) e from _ (reads_of to from d t) (λ a b oka okb. two_numbers e k (λ e i j. store_to p e to (Truth (f i j))) (λ i j. store_of to from d t w (Truth (f i j))) a b oka okb)
-
-      negates : (spans : List ℕ) → Always (λ e. with_one e from (λ a. with_one e spans (λ s. read_number p e a (λ e i. give p e to s (fitting (neg_ℤ i))))))
-      negates spans e k = one_of (ReadOk x g) e from _ (reads_of to from d t) (λ a ok. one_span e spans _ (λ s. numbers g (passes_self g) a _ ok (λ i. gives s (fitting (neg_ℤ i))) e k))
-
-      equates : Always (λ e. with_two e from (λ a b. read p e a (λ e v. read p e b (λ e u. with_some e (equal v u) (λ y. store_to p e to (Truth y))))))
-      equates e k = two_of (ReadOk x g) e from _ (reads_of to from d t) (λ a b oka okb. values g (passes_self g) a _ oka (λ v. values g (passes_self g) b _ okb (λ u e k. some_at e (equal v u) _ (λ y. store_of to from d t w (Truth y) e k))) e k)
+      comparing : (f : Val → Val → Option Bool) → Always (λ e. compares p e to from f)
+      comparing f e k = two_of (ReadOk x g) e from _ (reads_of to from d t) (λ a b oka okb.
+          values g (passes_self g) a _ oka (λ v. values g (passes_self g) b _ okb (λ u e k.
+          some_at e (f v u) _ (λ y. store_of to from d t w (Truth y) e k))) e k)
 
       inverts : Always (λ e. with_one e from (λ a. read_flag p e a (λ e b. store_to p e to (Truth (not b)))))
-      inverts e k = one_of (ReadOk x g) e from _ (reads_of to from d t) (λ a ok. flags g (passes_self g) a _ ok (λ b. store_of to from d t w (Truth (not b))) e k)
+      inverts e k =
+          one_of (ReadOk x g) e from _ (reads_of to from d t) (λ a ok. flags g (passes_self g) a _ ok (λ b. store_of to from d t w (Truth (not b))) e k)
 
-      counting : Always (λ e. with_one e from (λ array. read_array p e array (λ e s vs. store_to p e to (Number (pos (many vs))))))
-      counting e k = one_of (ReadOk x g) e from _ (reads_of to from d t) (λ a ok. counts g (passes_self g) a _ ok (λ s vs. store_of to from d t w (Number (pos (many vs)))) e k)
+      counting : Always (λ e. with_one e from (λ array. read_array p e array (λ e s vs. store_to p e to (Number Int (pos (many vs))))))
+      counting e k =
+          one_of (ReadOk x g) e from _ (reads_of to from d t)
+          (λ a ok. counts g (passes_self g) a _ ok (λ s vs. store_of to from d t w (Number Int (pos (many vs)))) e k)
 
       printing : Always (λ e. with_one e from (λ a. read p e a (λ e v. prints e (line_of v))))
       printing e k = one_of (ReadOk x g) e from _ (reads_of to from d t) (λ a ok. values g (passes_self g) a _ ok (λ v e k. some_at e (line_of v) _ (λ bytes.
           fine d (passes_of to from d t) w (record e { output = e.output ++ bytes }) (like_with c e e.turns e.opened e.input (e.output ++ bytes) k))) e k)
 
       reading : (s : ℕ) (got : Got) → Always (λ e. reads p e to s got)
-      reading s (lines.Gives n rest) e k = store_of to from d t w (Number n) (record e { input = rest }) (like_with c e e.turns e.opened rest e.output k)
+      reading s (lines.Gives n rest) e k = store_of to from d t w (Number Int n) (record e { input = rest }) (like_with c e e.turns e.opened rest e.output k)
       reading s (lines.Fails rest) e k = λ vals y. good_trap p TS (record e { input = rest }) trap.Input s (mem slots vals)
       reading s lines.Wants e k = λ vals y. over (Ends end.Asks) refl (λ e. absurd (cc))
 
-      checking : (spans : List ℕ) → Always (λ e. with_one e from (λ a. with_one e spans (λ s. read_flag p e a (λ e b. if b then Next e else trapped p e trap.Precondition s))))
-      checking spans e k = one_of (ReadOk x g) e from _ (reads_of to from d t) (λ a ok. one_span e spans _ (λ s. flags g (passes_self g) a _ ok (λ b. tests s b) e k))
+      checking : (spans : List ℕ)
+          → Always (λ e. with_one e from (λ a. with_one e spans (λ s. read_flag p e a (λ e b. if b then Return e else trapped p e trap.Precondition s))))
+      checking spans e k =
+          one_of (ReadOk x g) e from _ (reads_of to from d t) (λ a ok. one_span e spans _ (λ s. flags g (passes_self g) a _ ok (λ b. tests s b) e k))
         where
-          tests : (s : ℕ) (b : Bool) → Always (λ e. cond b (Next e) (trapped p e trap.Precondition s))
+          tests : (s : ℕ) (b : Bool) → Always (λ e. cond b (Return e) (trapped p e trap.Precondition s))
           tests s true = fine d (passes_of to from d t) w
           tests s false = λ e k vals y. good_trap p TS e trap.Precondition s (mem slots vals)
 
-    pushing : (from : List Place) (d : Face) → told.Two x from (λ array a. TakeOk x g a × ChangeOk x (given x g a) array × Leads x (given x g a) d) → Left d
-        → Always (λ e. with_two e from (λ array a. take p e a (λ e v. read_array p e array (λ e s vs. Tell (op.Change s (Array (at_end vs v))) (Next e)))))
+    pushing : (from : List Place) (d : FlowState) → transfer.Two x from (λ array a. TakeOk x g a × ChangeOk x (given x g a) array
+        × FlowsInto x (given x g a) d) → Left d
+        → Always (λ e. with_two e from
+        (λ array a. take p e a (λ e v. read_array p e array (λ e s vs. Perform (effect.Change s (Array (at_end vs v))) (Return e)))))
     pushing [] d t w e k = absurd t
     pushing (array ∷ []) d t w e k = absurd t
     pushing (array ∷ (a ∷ (b ∷ more))) d t w e k = λ vals s. over Stuck refl (λ e. absurd (cc))
-    pushing (array ∷ (a ∷ [])) d t w e k = takes g (passes_self g) a _ t.0 (λ v. arrays (given x g a) (given_pass x g a) array _ t.1.indexes t.1.free (λ s vs e vals k y may.
-        good_tell p TS (op.Change s (Array (at_end vs v))) (Next e) (mem slots vals) y may (λ y. fine d (passes_on g (given x g a) d (given_pass x g a) (leads_pass x _ d t.2)) w e k _ y))) e k
+    pushing (array ∷ (a ∷ [])) d t w e k =
+        takes g (passes_self g) a _ t.0 (λ v. arrays (given x g a) (given_pass x g a) array _ t.1.indexes t.1.free (λ s vs e vals k y may.
+        good_tell p TS (effect.Change s (Array (at_end vs v))) (Return e) (mem slots vals) y may
+        (λ y. fine d (passes_on g (given x g a) d (given_pass x g a) (flows_pass x _ d t.2)) w e k _ y))) e k
 
-    popping : (to : Option Place) (from : List Place) (spans : List ℕ) (d : Face) → told.One x from (λ array. ChangeOk x g array × Stores x g to d) → Left d
+    popping : (to : Option Place) (from : List Place) (spans : List ℕ) (d : FlowState) → transfer.One x from (λ array. ChangeOk x g array × Stores x g to d)
+        → Left d
         → Always (λ e. with_one e from (λ array. with_one e spans (λ s. read_array p e array (λ e at vs. pop p e to s at vs))))
     popping to [] spans d t w e k = absurd t
     popping to (array ∷ (b ∷ more)) spans d t w e k = λ vals s. over Stuck refl (λ e. absurd (cc))
-    popping to (array ∷ []) spans d t w e k = one_span e spans _ (λ s. arrays g (passes_self g) array _ t.0.indexes t.0.free (λ at vs e vals k y may. pops s at vs e vals k y may) e k)
+    popping to (array ∷ []) spans d t w e k =
+        one_span e spans _ (λ s. arrays g (passes_self g) array _ t.0.indexes t.0.free (λ at vs e vals k y may. pops s at vs e vals k y may) e k)
       where
-        pops : (s : ℕ) (at : Spot) (vs : Vals) (e : Control) (vals : Key → Val) → Like c e → Sound (mem slots vals) → MayWrite (mem slots vals) at → Good TS (pop p e to s at vs) (mem slots vals)
+        pops : (s : ℕ) (at : Spot) (vs : Vals) (e : Control) (vals : Key → Val) → Like c e → Sound (mem slots vals) → MayWrite (mem slots vals) at
+            → Good TS (pop p e to s at vs) (mem slots vals)
         pops s at No e vals k y may = good_trap p TS e trap.Empty s (mem slots vals)
         pops s at (And v vs) e vals k y may =
-            good_tell p TS (op.Change at (Array (popped v vs).rest)) (store_to p e to (popped v vs).last) (mem slots vals) y may (λ y. stores g (passes_self g) to d t.1 w (popped v vs).last e k _ y)
+            good_tell p TS (effect.Change at (Array (popped v vs).rest)) (store_to p e to (popped v vs).last) (mem slots vals) y may
+            (λ y. stores g (passes_self g) to d t.1 w (popped v vs).last e k _ y)
 
-    swapping : (from : List Place) (spans : List ℕ) (d : Face) → told.Three x from (λ array a b. ReadOk x g a × ReadOk x g b × ChangeOk x g array × Leads x g d) → Left d
+    swapping : (from : List Place) (spans : List ℕ) (d : FlowState)
+        → transfer.Three x from (λ array a b. ReadOk x g a × ReadOk x g b × ChangeOk x g array × FlowsInto x g d) → Left d
         → Always (λ e. with_three e from (λ array a b. with_two e spans (λ s t. swap p e array a b s t)))
     swapping [] spans d t w e k = absurd t
     swapping (array ∷ []) spans d t w e k = absurd t
     swapping (array ∷ (a ∷ [])) spans d t w e k = absurd t
     swapping (array ∷ (a ∷ (b ∷ (z ∷ more)))) spans d t w e k = λ vals s. over Stuck refl (λ e. absurd (cc))
-    swapping (array ∷ (a ∷ (b ∷ []))) spans d t w e k = two_spans e spans _ (λ s s'. numbers g (passes_self g) a _ t.0 (λ i. numbers g (passes_self g) b _ t.1 (λ j. arrays g (passes_self g) array _ t.2.indexes t.2.free (λ at vs e vals k y may.
+    swapping (array ∷ (a ∷ (b ∷ []))) spans d t w e k =
+        two_spans e spans _
+        (λ s s'. numbers g (passes_self g) a _ t.0 (λ i. numbers g (passes_self g) b _ t.1
+        (λ j. arrays g (passes_self g) array _ t.2.indexes t.2.free (λ at vs e vals k y may.
         good_index p TS e s 0 (index_in (many vs) i) _ (mem slots vals) (λ i _. good_index p TS e s' 0 (index_in (many vs) j) _ (mem slots vals) (λ j _.
-        good_tell p TS (op.Change at (Array (swapped i j vs))) (Next e) (mem slots vals) y may (λ y. fine d (leads_pass x g d t.3) w e k _ y)))))) e k)
+        good_tell p TS (effect.Change at (Array (swapped i j vs))) (Return e) (mem slots vals) y may (λ y. fine d (flows_pass x g d t.3) w e k _ y)))))) e k)
 
-    freeing : (from : List Place) (d : Face) → told.One x from (λ array. TakeOk x g array × Leads x (given x g array) d) → Left d
-        → Always (λ e. with_one e from (λ array. read_array p e array (λ e at vs. Tell (op.Clear at) (Next e))))
+    freeing : (from : List Place) (d : FlowState) → transfer.One x from (λ array. TakeOk x g array × FlowsInto x (given x g array) d) → Left d
+        → Always (λ e. with_one e from (λ array. read_array p e array (λ e at vs. Perform (effect.Clear at) (Return e))))
     freeing [] d t w e k = absurd t
     freeing (array ∷ (b ∷ more)) d t w e k = λ vals s. over Stuck refl (λ e. absurd (cc))
     freeing (array ∷ []) d t w e k = arrays g (passes_self g) array _ (exact_indexes g array.steps t.0.give.exact) t.0.give.free (λ at vs e vals k y may.
-        good_tell p TS (op.Clear at) (Next e) (mem slots vals) y may (λ y. fine d (passes_on g (given x g array) d (given_pass x g array) (leads_pass x _ d t.1)) w e k _ y)) e k
+        good_tell p TS (effect.Clear at) (Return e) (mem slots vals) y may
+        (λ y. fine d (passes_on g (given x g array) d (given_pass x g array) (flows_pass x _ d t.1)) w e k _ y)) e k
 
-    pub built_good : (o : Operator) (to : Option Place) (from : List Place) (spans : List ℕ) (d : Face) → TellsBuilt x o to from g d → Left d → Always (λ e. built p e o to from spans)
+    pub built_good : (o : Operator) (to : Option Place) (from : List Place) (spans : List ℕ) (d : FlowState) → TransfersBuilt x o to from g d → Left d
+        → Always (λ e. built p e o to from spans)
     built_good Add to from spans d t w = calculates to from d t w spans _
     built_good Sub to from spans d t w = calculates to from d t w spans _
     built_good Mul to from spans d t w = calculates to from d t w spans _
     built_good Div to from spans d t w = calculates to from d t w spans _
     built_good Rem to from spans d t w = calculates to from d t w spans _
-    built_good Neg to from spans d t w = negates to from d t w spans
-    built_good Eq to from spans d t w = equates to from d t w
-    built_good Lt to from spans d t w = comparing to from d t w int_lt
-    built_good Le to from spans d t w = comparing to from d t w int_le
+    built_good Neg to from spans d t w = changes to from d t w spans _
+    built_good (Convert u) to from spans d t w = changes to from d t w spans _
+    built_good Eq to from spans d t w = comparing to from d t w _
+    built_good Lt to from spans d t w = comparing to from d t w _
+    built_good Le to from spans d t w = comparing to from d t w _
     built_good Not to from spans d t w = inverts to from d t w
     built_good NewArray to from spans d t w = store_of to from d t w (Array No)
     built_good Push to from spans d t w = pushing from d t w

@@ -14,7 +14,8 @@ unfolding stmt_of shape-the_row-CoreStmt-0 hidden-the_row-CoreStmt-0 denote.Hole
 stmt_row_is [] = refl
 stmt_row_is (s ∷ more) = ap (P.Then (stmt_of s)) (stmt_row_is more)
 
-pub built_is : (o : CoreOp) (to : Option CorePlace) (from : List CorePlace) (spans : List ℕ) → stmt_of (S.Built o to from spans) ≡ P.Built (op_of o) (option_map place_of to) (map place_of from) spans
+pub built_is : (o : CoreOp) (to : Option CorePlace) (from : List CorePlace) (spans : List ℕ)
+    → stmt_of (S.Built o to from spans) ≡ P.Built (op_of o) (option_map place_of to) (map place_of from) spans
 unfolding stmt_of
 built_is o to from spans = refl
 
@@ -42,11 +43,13 @@ pub drop_is : (place : CorePlace) → stmt_of (S.Drop place) ≡ P.Drop (place_o
 unfolding stmt_of
 drop_is place = refl
 
-pub call_is : (fun : ℕ) (lent : List ℕ) (owned : List CorePlace) (to : CorePlace) → stmt_of (S.Call fun lent owned to) ≡ P.Call fun lent (map place_of owned) (place_of to)
+pub call_is : (fun : ℕ) (lent : List ℕ) (owned : List CorePlace) (to : CorePlace)
+    → stmt_of (S.Call fun lent owned to) ≡ P.Call fun lent (map place_of owned) (place_of to)
 unfolding stmt_of
 call_is fun lent owned to = refl
 
-pub project_is : (fun : ℕ) (lent : List ℕ) (owned : List CorePlace) (to : ℕ) → stmt_of (S.Project fun lent owned to) ≡ P.Project fun lent (map place_of owned) to
+pub project_is : (fun : ℕ) (lent : List ℕ) (owned : List CorePlace) (to : ℕ)
+    → stmt_of (S.Project fun lent owned to) ≡ P.Project fun lent (map place_of owned) to
 unfolding stmt_of
 project_is fun lent owned to = refl
 
@@ -78,4 +81,21 @@ pub while_is : (head : List CoreStmt) (on : ℕ) (body : List CoreStmt) → stmt
 unfolding stmt_of
 while_is head on body = λ i. P.While (stmt_row_is head i) on (stmt_row_is body i)
 
-pub ruleset statements = (built_is, set_is, lend_is, close_is, move_is, copy_is, drop_is, call_is, project_is, slide_is, yield_is, if_is, while_is, break_is, continue_is, leave_is)
+pub ruleset statements = (
+  built_is,
+  set_is,
+  lend_is,
+  close_is,
+  move_is,
+  copy_is,
+  drop_is,
+  call_is,
+  project_is,
+  slide_is,
+  yield_is,
+  if_is,
+  while_is,
+  break_is,
+  continue_is,
+  leave_is,
+)

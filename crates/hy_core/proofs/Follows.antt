@@ -1,18 +1,16 @@
 -- The relation of the two memories, and what keeps it.
-use Rattle.std.proofs.Common.{◌≡◌, ◌≢◌, ◌⊎◌, inl, inr, ⊎_elim, ℕ, zero, suc, ◌<◌, [], ◌++◌, Option, Some, None, refl, sym, ap, ◌∙◌, subst, append_assoc, append-nil, arith}
-use Rattle.hy_core.specs.Values.{Val, Unset, Path, get, put, Apart, Within, shape, IsThere}
-use Rattle.hy_core.specs.Memory.{Key, set_at, Spot, whole, below, Way, Reads, Writes, Origin, Copies, put_back, close_copy, way_of, copying, Cells, target_of, target, resolve, lending, no_copies, no_cells}
-use Rattle.hy_core.specs.Calm.{IsShut, IsWritable, MayLook, MayRead, MayWrite, MayOpen, MayLend, MayHand, MayClose}
-use Rattle.hy_core.proofs.Values.{Above, apart_sym, apart_front, apart_back, apart_within, apart_over, get_get, get_put_below, get_put_apart, there_append, there_back, there_put_below, there_put_apart, agree_put, agree_hidden, agree_back, agree_there, not_over, same_values}
+use Rattle.std.proofs.Common.{◌≡◌, ◌≢◌, ◌⊎◌, inl, inr, ⊎_elim, ℕ, zero, suc, ◌<◌, [], ◌++◌, Option, Some, None, refl, sym, ap, ◌∙◌, subst, append_assoc}
+use Rattle.std.proofs.Common.{append-nil, arith}
+use Rattle.hy_core.specs.Values.{Val, Unset, Path, get, put, Within, shape, IsThere, Diverge}
+use Rattle.hy_core.specs.Memory.{Key, set_at, Spot, whole, below, Way, Reads, Writes, Origin, Copies, put_back, close_copy, way_of, copying, Cells}
+use Rattle.hy_core.specs.Memory.{target_of, target, resolve, lending, no_copies, no_cells}
+use Rattle.hy_core.specs.Calm.{IsShut, IsWritable, MayInspect, MayRead, MayWrite, MayOpen, MayLend, MayHand, MayClose}
+use Rattle.hy_core.specs.States.{held, IsClear, IsFrom, Descends, Agree}
+use Rattle.hy_core.proofs.OpenPlaces.{Sound}
+use Rattle.hy_core.proofs.Values.{Above, apart_diverge, diverge_sym, diverge_front, diverge_back, diverge_within, diverge_over, get_get, get_put_below}
+use Rattle.hy_core.proofs.Values.{get_put_apart, there_append, there_back, there_put_below, there_put_apart, agree_put, agree_hidden, agree_back}
+use Rattle.hy_core.proofs.Values.{agree_there, not_over, same_values}
 use Rattle.hy_core.proofs.Keys.{key_dec, set_same, set_other, at_key}
-
--- what the store holds for a local
-abbrev pub held : Cells → Key → Val
-held s k = get (target s k).path (s.cell (target s k).key)
-
--- the path goes through no place of the local that is open for change
-abbrev pub IsClear : Copies → Key → Path → Type 0
-IsClear m k q = (c : Key) (o : Origin) → m.opened c ≡ Some o → o.base ≡ k → o.way ≡ Writes → Within o.path q → ⊥
 
 -- an opened local refers to the place that it was opened at, was opened later than that one's local, and is for change only if that one is
 pub record IsLent (rank : Key → ℕ) (m : Copies) (s : Cells) (k : Key) (o : Origin) : Type 0 where
@@ -24,7 +22,7 @@ pub record IsLent (rank : Key → ℕ) (m : Copies) (s : Cells) (k : Key) (o : O
 pub record Follows (rank : Key → ℕ) (m : Copies) (s : Cells) : Type 0 where
   pub own : (k : Key) → m.opened k ≡ None → s.refers k ≡ None
   pub lent : (k : Key) (o : Origin) → m.opened k ≡ Some o → IsLent rank m s k o
-  pub apart : (a b : Key) (o p : Origin) → m.opened a ≡ Some o → m.opened b ≡ Some p → a ≢ b → o.base ≡ p.base → o.way ≡ Writes → Apart o.path p.path
+  pub apart : (a b : Key) (o p : Origin) → m.opened a ≡ Some o → m.opened b ≡ Some p → a ≢ b → o.base ≡ p.base → o.way ≡ Writes → Diverge o.path p.path
   pub there : (k : Key) → IsThere (target s k).path (s.cell (target s k).key)
   pub same : (k : Key) (q : Path) → IsClear m k q → shape (get q (m.value k)) ≡ shape (get q (held s k))
 
@@ -48,7 +46,16 @@ Reach m zero u k p = (u ≡ k) × (p ≡ [])
 Reach m (suc n) u k p = Down m (λ c r. Reach m n c k r) u p
 
 reach_on : (m : Copies) (n : ℕ) (u y k : Key) (p : Path) (o : Origin) → Reach m n u y p → m.opened k ≡ Some o → o.base ≡ y → Reach m (suc n) u k (p ++ o.path)
-reach_on m zero u y k p o r h b = record { child = k; origin = o; rest = []; opened = h; base = b ∙ sym r.0; path = ap (λ p. p ++ o.path) r.1 ∙ sym (append-nil o.path); more = (refl, refl) }
+reach_on m zero u y k p o r h b = record {
+  child = k;
+  origin = o;
+  rest = [];
+  opened = h;
+  base = b ∙ sym r.0;
+  path = ap (λ p. p ++ o.path) r.1
+      ∙ sym (append-nil o.path);
+  more = (refl, refl);
+}
 reach_on m (suc n) u y k p o r h b = record {
   child = r.child;
   origin = r.origin;
@@ -81,23 +88,27 @@ module _ (rank : Key → ℕ) (m : Copies) (s : Cells) (F : Follows rank m s) wh
   -- what leads to a local that may be changed was opened for change
   writable_up : (n : ℕ) (c x : Key) (r : Path) → Reach m n c x r → IsWritable m x → IsWritable m c
   writable_up zero c x r h w = subst (IsWritable m) (sym h.0) w
-  writable_up (suc n) c x r h w = let v = writable_up n h.child x h.rest h.more w in subst (IsWritable m) h.base ((F.lent h.child h.origin h.opened).way (v h.origin h.opened))
+  writable_up (suc n) c x r h w = let v = writable_up n h.child x h.rest h.more w in
+      subst (IsWritable m) h.base ((F.lent h.child h.origin h.opened).way (v h.origin h.opened))
 
 -- how a place p of the local x lies to what the local k stands for, seen from a local above both: q and t are the paths
 data Meets (m : Copies) (x : Key) (p : Path) (k : Key) (q t : Path) : Type 0 where
-  beside : Apart q t → Meets m x p k q t
+  beside : Diverge q t → Meets m x p k q t
   itself : k ≡ x → q ≡ t ++ p → Meets m x p k q t
   hidden : (c : Key) (o : Origin) (r : Path) → m.opened c ≡ Some o → o.base ≡ k → o.way ≡ Writes → q ≡ t ++ (o.path ++ r) → Meets m x p k q t
 
 meets_below : (m : Copies) (x : Key) (p : Path) (k : Key) (u q t : Path) → Meets m x p k q t → Meets m x p k (u ++ q) (u ++ t)
-meets_below m x p k u q t (beside a) = beside (apart_front u q t a)
+meets_below m x p k u q t (beside a) = beside (diverge_front u q t a)
 meets_below m x p k u q t (itself e f) = itself e (ap (λ q. u ++ q) f ∙ sym (append_assoc u t p))
 meets_below m x p k u q t (hidden c o r h b w f) = hidden c o r h b w (ap (λ q. u ++ q) f ∙ sym (append_assoc u t (o.path ++ r)))
 
-module _ (rank : Key → ℕ) (m : Copies) (s : Cells) (F : Follows rank m s) (x : Key) (p : Path) (W : IsWritable m x) (free : (c : Key) (o : Origin) → m.opened c ≡ Some o → o.base ≡ x → Apart o.path p) where
+module _ (rank : Key → ℕ) (m : Copies) (s : Cells) (F : Follows rank m s) (x : Key) (p : Path) (W : IsWritable m x) (free : (c : Key) (o : Origin)
+    → m.opened c ≡ Some o → o.base ≡ x → Diverge o.path p) where
   meet : (n i : ℕ) (u k : Key) (q t : Path) → Reach m n u x q → Reach m i u k t → Meets m x p k (q ++ p) t
   meet zero zero u k q t a b = itself (sym b.0 ∙ a.0) (rw (a.1, b.1) refl)
-  meet zero (suc i) u k q t a b = beside (rw (a.1, b.path) (let h = apart_sym _ _ (free b.child b.origin b.opened (b.base ∙ a.0)) in subst (λ p'. Apart p' (b.origin.path ++ b.rest)) (append-nil p) (apart_back p b.origin.path [] b.rest h)))
+  meet zero (suc i) u k q t a b =
+      beside (rw (a.1, b.path) (let h = diverge_sym _ _ (free b.child b.origin b.opened (b.base ∙ a.0)) in
+      subst (λ p'. Diverge p' (b.origin.path ++ b.rest)) (append-nil p) (diverge_back p b.origin.path [] b.rest h)))
   meet (suc n) zero u k q t a b =
       let w = writable_up rank m s F n a.child x a.rest a.more W in
       hidden a.child a.origin (a.rest ++ p) a.opened (a.base ∙ b.0) (w a.origin a.opened) (rw (a.path, b.1) (append_assoc a.origin.path a.rest p))
@@ -111,7 +122,7 @@ module _ (rank : Key → ℕ) (m : Copies) (s : Cells) (F : Follows rank m s) (x
       go (inr n') up =
           let w = writable_up rank m s F n a.child x a.rest a.more W in
           let h = F.apart a.child b.child a.origin b.origin a.opened b.opened n' (a.base ∙ sym b.base) (w a.origin a.opened) in
-          beside (rw (a.path, b.path, append_assoc a.origin.path a.rest p) (apart_back a.origin.path b.origin.path (a.rest ++ p) b.rest h))
+          beside (rw (a.path, b.path, append_assoc a.origin.path a.rest p) (diverge_back a.origin.path b.origin.path (a.rest ++ p) b.rest h))
 
 open_reads : (m : Copies) (t : Spot) (way : Way) → MayOpen m t way → MayRead m t
 open_reads m t Reads h = h
@@ -129,12 +140,13 @@ module _ (rank : Key → ℕ) (m : Copies) (s : Cells) (F : Follows rank m s) wh
       let P = (target s t.key).path in
       let cell = s.cell (target s t.key).key in
       same_values _ _ (λ q. ap shape (sym (get_get t.path q (m.value t.key)))
-      ∙ F.same t.key (t.path ++ q) (λ c o h b w i. apart_within o.path t.path q (may.apart c o h b w) i)
+      ∙ F.same t.key (t.path ++ q) (λ c o h b w i. diverge_within o.path t.path q (apart_diverge o.path t.path (may.apart c o h b w)) i)
       ∙ ap shape (get_get t.path q (held s t.key)))
       ∙ sym (get_get P t.path cell)
 
-  look_same : (t : Spot) → MayLook m t → shape (copying.read m t) ≡ shape (lending.read s t)
-  look_same t may = F.same t.key t.path (λ c o h b w i. may.clear c o h b w i) ∙ ap shape (sym (get_get (target s t.key).path t.path (s.cell (target s t.key).key)))
+  look_same : (t : Spot) → MayInspect m t → shape (copying.read m t) ≡ shape (lending.read s t)
+  look_same t may = F.same t.key t.path (λ c o h b w i. may.clear c o h b w i)
+      ∙ ap shape (sym (get_get (target s t.key).path t.path (s.cell (target s t.key).key)))
 
 -- STORING
 
@@ -143,11 +155,13 @@ module _ (rank : Key → ℕ) (m : Copies) (s : Cells) (F : Follows rank m s) (t
   store_meets k e =
       let a = root rank m s F t.key in
       let b = root rank m s F k in
-      meet rank m s F t.key t.path may.writable may.apart a.0 b.0 (target s t.key).key k (target s t.key).path (target s k).path a.1 (subst (λ u. Reach m b.0 u k (target s k).path) e b.1)
+      meet rank m s F t.key t.path may.writable (λ c o e b. apart_diverge o.path t.path (may.apart c o e b)) a.0 b.0 (target s t.key).key k
+      (target s t.key).path (target s k).path a.1 (subst (λ u. Reach m b.0 u k (target s k).path) e b.1)
 
   -- the place is there in the store
   place_held : IsThere t.path (held s t.key)
-  place_held = agree_there t.path (m.value t.key) (held s t.key) (λ q w. F.same t.key q (λ c o h b v. apart_over o.path q t.path (may.apart c o h b) w)) may.there
+  place_held = agree_there t.path (m.value t.key) (held s t.key)
+      (λ q w. F.same t.key q (λ c o h b v. diverge_over o.path q t.path (apart_diverge o.path t.path (may.apart c o h b)) w)) may.there
 
   place_there : IsThere ((target s t.key).path ++ t.path) (s.cell (target s t.key).key)
   place_there = there_append (target s t.key).path t.path _ (F.there t.key) place_held
@@ -164,15 +178,19 @@ module _ (rank : Key → ℕ) (m : Copies) (s : Cells) (F : Follows rank m s) (t
       (λ e. go (store_meets k e) (subst (λ u. IsThere (target s k).path (s.cell u)) e (F.there k)))
       (λ n. F.there k)
     where
-      go : Meets m t.key t.path k ((target s t.key).path ++ t.path) (target s k).path → IsThere (target s k).path (s.cell (target s t.key).key) → IsThere (target s k).path (put ((target s t.key).path ++ t.path) v (s.cell (target s t.key).key))
+      go : Meets m t.key t.path k ((target s t.key).path ++ t.path) (target s k).path → IsThere (target s k).path (s.cell (target s t.key).key)
+          → IsThere (target s k).path (put ((target s t.key).path ++ t.path) v (s.cell (target s t.key).key))
       go (beside a) i = there_put_apart _ _ _ _ place_there a i
       go (itself e f) i = rw f (there_put_below (target s k).path t.path v _ i)
       go (hidden c o r h b w f) i = rw f (there_put_below (target s k).path (o.path ++ r) v _ i)
 
   store_same_itself : (q : Path) → IsClear m1 t.key q → shape (get q (put t.path v (m.value t.key))) ≡ shape (get q (held s1 t.key))
   unfolding m1 s1
-  store_same_itself q c = at_key s.cell (target s t.key).key _ (target s t.key).key (λ u. shape (get q (put t.path v (m.value t.key))) ≡ shape (get q (get (target s t.key).path u)))
-      (λ e. agree_put t.path q v (m.value t.key) (held s t.key) may.there place_held (F.same t.key q c) ∙ ap (λ u. shape (get q u)) (sym (get_put_below (target s t.key).path t.path v _ (F.there t.key))))
+  store_same_itself q c =
+      at_key s.cell (target s t.key).key _ (target s t.key).key
+      (λ u. shape (get q (put t.path v (m.value t.key))) ≡ shape (get q (get (target s t.key).path u)))
+      (λ e. agree_put t.path q v (m.value t.key) (held s t.key) may.there place_held (F.same t.key q c)
+      ∙ ap (λ u. shape (get q u)) (sym (get_put_below (target s t.key).path t.path v _ (F.there t.key))))
       (λ n. absurd (n refl))
 
   store_same_other : (k : Key) → k ≢ t.key → (q : Path) → IsClear m1 k q → shape (get q (m.value k)) ≡ shape (get q (held s1 k))
@@ -185,15 +203,19 @@ module _ (rank : Key → ℕ) (m : Copies) (s : Cells) (F : Follows rank m s) (t
     where
       -- the place of what was opened from k is there
       there_at : (c' : Key) (o : Origin) → m.opened c' ≡ Some o → o.base ≡ k → IsThere o.path (held s k)
-      there_at c' o h b = there_back (target s k).path o.path _ (subst (λ k. IsThere ((target s k).path ++ o.path) (s.cell (target s k).key)) b (subst (λ u. IsThere u.path (s.cell u.key)) (target_lent rank m s F c' o h) (F.there c')))
+      there_at c' o h b =
+          there_back (target s k).path o.path _ (subst (λ k. IsThere ((target s k).path ++ o.path) (s.cell (target s k).key)) b
+          (subst (λ u. IsThere u.path (s.cell u.key)) (target_lent rank m s F c' o h) (F.there c')))
 
-      go : Meets m t.key t.path k ((target s t.key).path ++ t.path) (target s k).path → shape (get q (m.value k)) ≡ shape (get q (get (target s k).path (s.cell (target s t.key).key)))
+      go : Meets m t.key t.path k ((target s t.key).path ++ t.path) (target s k).path
+          → shape (get q (m.value k)) ≡ shape (get q (get (target s k).path (s.cell (target s t.key).key)))
           → ((c' : Key) (o : Origin) → m.opened c' ≡ Some o → o.base ≡ k → IsThere o.path (get (target s k).path (s.cell (target s t.key).key)))
           → IsThere (target s k).path (s.cell (target s t.key).key)
           → shape (get q (m.value k)) ≡ shape (get q (get (target s k).path (put ((target s t.key).path ++ t.path) v (s.cell (target s t.key).key))))
       go (beside a) h i k_there = h ∙ ap (λ u. shape (get q u)) (sym (get_put_apart _ _ v _ place_there a))
       go (itself e f) h i k_there = absurd (n e)
-      go (hidden c' o r h' b w f) h i k_there = h ∙ sym (agree_hidden o.path r q v _ (c c' o h' b w) (i c' o h' b)) ∙ ap (λ u. shape (get q u)) (sym (get_put_below (target s k).path (o.path ++ r) v _ k_there)) ∙ rw f refl
+      go (hidden c' o r h' b w f) h i k_there = h ∙ sym (agree_hidden o.path r q v _ (c c' o h' b w) (i c' o h' b))
+          ∙ ap (λ u. shape (get q u)) (sym (get_put_below (target s k).path (o.path ++ r) v _ k_there)) ∙ rw f refl
 
   store_follows : Follows rank (copying.store m t v) (lending.store s t v)
   unfolding m1 s1
@@ -254,25 +276,28 @@ module _ (rank : Key → ℕ) (m : Copies) (s : Cells) (F : Follows rank m s) (k
       there' : j ≢ k → IsLent rank2 m2 s2 j o
       there' n = let i = sym (set_other m.opened k (Some new) j n) ∙ h in old o (may.shut j o i) n (F.lent j o i)
 
-  lend_apart : (a b : Key) (o p : Origin) → m2.opened a ≡ Some o → m2.opened b ≡ Some p → a ≢ b → o.base ≡ p.base → o.way ≡ Writes → Apart o.path p.path
+  lend_apart : (a b : Key) (o p : Origin) → m2.opened a ≡ Some o → m2.opened b ≡ Some p → a ≢ b → o.base ≡ p.base → o.way ≡ Writes → Diverge o.path p.path
   lend_apart a b o p =
-      at_key m.opened k (Some new) a (λ u. u ≡ Some o → m2.opened b ≡ Some p → a ≢ b → o.base ≡ p.base → o.way ≡ Writes → Apart o.path p.path)
-      (λ e. λ h. at_key m.opened k (Some new) b (λ u. u ≡ Some p → a ≢ b → o.base ≡ p.base → o.way ≡ Writes → Apart o.path p.path)
+      at_key m.opened k (Some new) a (λ u. u ≡ Some o → m2.opened b ≡ Some p → a ≢ b → o.base ≡ p.base → o.way ≡ Writes → Diverge o.path p.path)
+      (λ e. λ h. at_key m.opened k (Some new) b (λ u. u ≡ Some p → a ≢ b → o.base ≡ p.base → o.way ≡ Writes → Diverge o.path p.path)
       (λ f i n. absurd (n (e ∙ sym f)))
       (λ f i n c w.
       let g : new ≡ o = cc in
-      subst (λ q. Apart q p.path) (ap (λ o. o.path) g) (apart_sym _ _ ((open_writes m t way may.free (ap (λ o. o.way) g ∙ w)).apart b p i (sym c ∙ sym (ap (λ o. o.base) g))))))
-      (λ e. λ h. at_key m.opened k (Some new) b (λ u. u ≡ Some p → a ≢ b → o.base ≡ p.base → o.way ≡ Writes → Apart o.path p.path)
+      subst (λ q. Diverge q p.path) (ap (λ o. o.path) g)
+      (diverge_sym p.path t.path
+      (apart_diverge p.path t.path ((open_writes m t way may.free (ap (λ o. o.way) g ∙ w)).apart b p i (sym c ∙ sym (ap (λ o. o.base) g)))))))
+      (λ e. λ h. at_key m.opened k (Some new) b (λ u. u ≡ Some p → a ≢ b → o.base ≡ p.base → o.way ≡ Writes → Diverge o.path p.path)
       (λ f i n c w.
       let g : new ≡ p = cc in
-      subst (Apart o.path) (ap (λ o. o.path) g) ((open_reads m t way may.free).apart a o h (c ∙ sym (ap (λ o. o.base) g)) w))
+      subst (Diverge o.path) (ap (λ o. o.path) g) (apart_diverge o.path t.path ((open_reads m t way may.free).apart a o h (c ∙ sym (ap (λ o. o.base) g)) w)))
       (λ f i n c w. F.apart a b o p h i n c w))
 
   lend_there : (j : Key) → IsThere (target s2 j).path (s.cell (target s2 j).key)
   lend_there j = at_key s.refers k (Some (resolve s t)) j (λ r. IsThere (target_of j r).path (s.cell (target_of j r).key))
       (λ e. there_append (target s t.key).path t.path _ (F.there t.key)
       (agree_there t.path (m.value t.key) (held s t.key)
-      (λ q w. F.same t.key q (λ c o h b v. apart_over o.path q t.path ((open_reads m t way may.free).apart c o h b v) w)) may.there))
+      (λ q w. F.same t.key q (λ c o h b v. diverge_over o.path q t.path (apart_diverge o.path t.path ((open_reads m t way may.free).apart c o h b v)) w))
+      may.there))
       (λ n. F.there j)
 
   -- what was clear is more than what is
@@ -337,7 +362,8 @@ module _ (rank : Key → ℕ) (m : Copies) (s : Cells) (F : Follows rank m s) (k
 
   close_there : (j : Key) → IsThere (target s3 j).path (s3.cell (target s3 j).key)
   close_there j = ⊎_elim
-      (λ e. subst (λ j. IsThere (target s3 j).path (s3.cell (target s3 j).key)) (sym e) (subst (λ r. IsThere (target_of k r).path (s3.cell (target_of k r).key)) (sym (set_same s.refers k None)) tt))
+      (λ e. subst (λ j. IsThere (target s3 j).path (s3.cell (target s3 j).key)) (sym e)
+      (subst (λ r. IsThere (target_of k r).path (s3.cell (target_of k r).key)) (sym (set_same s.refers k None)) tt))
       (λ n. subst (λ u. IsThere u.path (s3.cell u.key)) (sym (close_target j n)) (subst (IsThere (target s j).path) (sym (close_cell j)) (F.there j)))
       (key_dec j k)
 
@@ -354,14 +380,16 @@ module _ (rank : Key → ℕ) (m : Copies) (s : Cells) (F : Follows rank m s) (k
   copy_there : o.way ≡ Writes → IsThere o.path (m.value o.base)
   copy_there w = agree_there o.path (held s o.base) (m.value o.base) (λ q v. sym (F.same o.base q (λ c p h b x. clear q v c p h b x (key_dec c k)))) part_there
     where
-      clear : (q : Path) → Above q o.path → (c : Key) (p : Origin) → m.opened c ≡ Some p → p.base ≡ o.base → p.way ≡ Writes → (c ≡ k) ⊎ (c ≢ k) → Within p.path q → ⊥
+      clear : (q : Path) → Above q o.path → (c : Key) (p : Origin) → m.opened c ≡ Some p → p.base ≡ o.base → p.way ≡ Writes → (c ≡ k) ⊎ (c ≢ k)
+          → Within p.path q → ⊥
       clear q v c p h b x (inl e) i = not_over q o.path v (subst (λ o. Within o.path q) (same_origin m c k p o e h is_open) i)
-      clear q v c p h b x (inr n) i = apart_over p.path q o.path (F.apart c k p o h is_open n b x) v i
+      clear q v c p h b x (inr n) i = diverge_over p.path q o.path (F.apart c k p o h is_open n b x) v i
 
   -- what is clear now, but for what closed
   close_clear : (j : Key) (q : Path) → IsClear m3 j q → (j ≡ o.base → o.way ≡ Writes → Within o.path q → ⊥) → IsClear m j q
   close_clear j q c d a p h b w = ⊎_elim
-      (λ e. let g : o ≡ p = same_origin m k a o p (sym e) is_open h in λ v. d (sym b ∙ sym (ap (λ o. o.base) g)) (ap (λ o. o.way) g ∙ w) (subst (λ o. Within o.path q) (sym g) v))
+      (λ e. let g : o ≡ p = same_origin m k a o p (sym e) is_open h in
+      λ v. d (sym b ∙ sym (ap (λ o. o.base) g)) (ap (λ o. o.way) g ∙ w) (subst (λ o. Within o.path q) (sym g) v))
       (λ n. c a p (set_other m.opened k None a n ∙ h) b w)
       (key_dec a k)
 
@@ -386,7 +414,8 @@ module _ (rank : Key → ℕ) (m : Copies) (s : Cells) (F : Follows rank m s) (k
           ∙ ap (λ u. shape (get q (get u.path (s3.cell u.key)))) (sym (close_target j n))
 
   close_own : (j : Key) → m3.opened j ≡ None → s3.refers j ≡ None
-  close_own j = ⊎_elim (λ e h. ap s3.refers e ∙ set_same s.refers k None) (λ n h. set_other s.refers k None j n ∙ F.own j (sym (set_other m.opened k None j n) ∙ h)) (key_dec j k)
+  close_own j = ⊎_elim (λ e h. ap s3.refers e ∙ set_same s.refers k None) (λ n h. set_other s.refers k None j n
+      ∙ F.own j (sym (set_other m.opened k None j n) ∙ h)) (key_dec j k)
 
   close_follows : Follows rank m3 s3
   close_follows = record {
@@ -414,18 +443,26 @@ pub record Agrees (m : Copies) (s : Cells) : Type 0 where
 pub agrees_read : (m : Copies) (s : Cells) → Agrees m s → (t : Spot) → MayRead m t → copying.read m t ≡ lending.read s t
 agrees_read m s a t may = read_same a.rank m s a.follows t may
 
-pub agrees_look : (m : Copies) (s : Cells) → Agrees m s → (t : Spot) → MayLook m t → shape (copying.read m t) ≡ shape (lending.read s t)
+pub agrees_look : (m : Copies) (s : Cells) → Agrees m s → (t : Spot) → MayInspect m t → shape (copying.read m t) ≡ shape (lending.read s t)
 agrees_look m s a t may = look_same a.rank m s a.follows t may
 
 pub agrees_store : (m : Copies) (s : Cells) → Agrees m s → (t : Spot) (v : Val) → MayWrite m t → Agrees (copying.store m t v) (lending.store s t v)
 agrees_store m s a t v may = record { rank = a.rank; follows = store_follows a.rank m s a.follows t v may }
 
-pub agrees_lend : (m : Copies) (s : Cells) → Agrees m s → (k : Key) (t : Spot) (way : Way) → MayLend m k t way → Agrees (copying.lend m k t way) (lending.lend s k t way)
+pub agrees_lend : (m : Copies) (s : Cells) → Agrees m s → (k : Key) (t : Spot) (way : Way) → MayLend m k t way
+    → Agrees (copying.lend m k t way) (lending.lend s k t way)
 agrees_lend m s a k t way may = record { rank = _; follows = lend_follows a.rank m s a.follows k t way may }
 
 -- what may be handed may be lent as a whole, in the way in which it is open
 hand_lends : (m : Copies) (k l : Key) → MayHand m k l → MayLend m k (whole l) (way_of (m.opened l))
-hand_lends m k l may = record { closed = may.closed; shut = may.shut; other = may.other; there = tt; free = free (way_of (m.opened l)) (λ w o e. sym (ap way_of e) ∙ w) }
+hand_lends m k l may = record {
+  closed = may.closed;
+  shut = may.shut;
+  other = may.other;
+  there = tt;
+  free =
+      free (way_of (m.opened l)) (λ w o e. sym (ap way_of e) ∙ w);
+}
   where
     free : (way : Way) → (way ≡ Writes → IsWritable m l) → MayOpen m (whole l) way
     free Reads w = record { kept = λ c o e b. absurd (may.free c o e b); apart = λ c o e b. absurd (may.free c o e b) }
@@ -437,8 +474,52 @@ agrees_hand m s a k l may = agrees_lend m s a k (whole l) (way_of (m.opened l)) 
 pub agrees_close : (m : Copies) (s : Cells) → Agrees m s → (k : Key) → MayClose m k → Agrees (copying.close m k) (lending.close s k)
 agrees_close m s a k may = record {
   rank = a.rank;
-  follows = subst (λ m'. Follows a.rank m' (lending.close s k)) (sym (ap (close_copy m k) may.opened)) (close_follows a.rank m s a.follows k may.origin may.opened may.shut);
+  follows = subst (λ m'. Follows a.rank m' (lending.close s k)) (sym (ap (close_copy m k) may.opened))
+      (close_follows a.rank m s a.follows k may.origin may.opened may.shut);
 }
 
 pub agrees_first : Agrees no_copies no_cells
 agrees_first = record { rank = λ _. zero; follows = begins }
+
+-- what was opened from what was opened from a local was opened from that
+from_on : (m : Copies) (n : ℕ) (k c u : Key) (o : Origin) → IsFrom m n k c → m.opened c ≡ Some o → o.base ≡ u → IsFrom m (suc n) k u
+from_on m zero k c u o e h b = (o, ap m.opened e ∙ h, b)
+from_on m (suc n) k c u o (q, f, r) h b = (q, f, from_on m n q.base c u o r h b)
+
+reach_from : (m : Copies) (n : ℕ) (u k : Key) (p : Path) → Reach m n u k p → IsFrom m n k u
+reach_from m zero u k p r = sym r.0
+reach_from m (suc n) u k p r = from_on m n k r.child u r.origin (reach_from m n r.child k r.rest r.more) r.opened r.base
+
+module _ (rank : Key → ℕ) (m : Copies) (s : Cells) (F : Follows rank m s) where
+  -- two ways down from one local part, or one ends on the other
+  parts : (n i : ℕ) (u k l : Key) (q t : Path) → IsWritable m k → Reach m n u k q → Reach m i u l t → (Descends m k l ⊎ Descends m l k) ⊎ Diverge q t
+  parts zero i u k l q t w a b = inl (inr (i, subst (λ u. IsFrom m i l u) a.0 (reach_from m i u l t b)))
+  parts (suc n) zero u k l q t w a b = inl (inl (suc n, subst (λ u. IsFrom m (suc n) k u) b.0 (reach_from m (suc n) u k q a)))
+  parts (suc n) (suc i) u k l q t w a b = go (key_dec a.child b.child) (λ c. parts n i a.child k l a.rest b.rest w a.more c)
+    where
+      go : (a.child ≡ b.child) ⊎ (a.child ≢ b.child) → (Reach m i a.child l b.rest → (Descends m k l ⊎ Descends m l k) ⊎ Diverge a.rest b.rest)
+          → (Descends m k l ⊎ Descends m l k) ⊎ Diverge q t
+      go (inl e) up =
+          let o : a.origin ≡ b.origin = same_origin m a.child b.child a.origin b.origin e a.opened b.opened in
+          ⊎_elim inl (λ d. inr (rw (a.path, b.path, ← o) (diverge_front a.origin.path a.rest b.rest d)))
+          (up (subst (λ c. Reach m i c l b.rest) (sym e) b.more))
+      go (inr n') up =
+          let v = writable_up rank m s F n a.child k a.rest a.more w in
+          inr (rw (a.path, b.path) (diverge_back a.origin.path b.origin.path a.rest b.rest
+          (F.apart a.child b.child a.origin b.origin a.opened b.opened n' (a.base ∙ sym b.base) (v a.origin a.opened))))
+
+  pub agree_of : Sound m → Agree m s
+  agree_of sound = record {
+    own = F.own;
+    refers = λ k o h. (F.lent k o h).refers;
+    there = F.there;
+    same = F.same;
+    way = λ k o h w. (F.lent k o h).way w;
+    siblings = λ k l o q h i n b w. sound.apart k l o q h i n b w;
+    apart = λ k l o h w e.
+        let a = root rank m s F k in
+        let b = root rank m s F l in
+        parts a.0 b.0 (target s k).key k l (target s k).path (target s l).path (λ q i. let z : o ≡ q = same_origin m k k o q refl h i in
+        ap (λ o. o.way) (sym z) ∙ w) a.1
+        (subst (λ u. Reach m b.0 u l (target s l).path) (sym e) b.1);
+  }

@@ -3,13 +3,15 @@ use Rattle.std.proofs.Common.{◌≡◌, ◌≢◌, ◌⊎◌, inl, inr, ⊎_eli
 use Rattle.std.proofs.lemmas.Bool.Decides.{eqb_tells}
 use Rattle.hy_core.specs.Memory.{Key, key_eq, set_at}
 
--- what the test of two keys tells
+-- what the test of two keys says
 data Tells (j k : Key) : Type 0 where
   same : key_eq j k ≡ true → j ≡ k → Tells j k
   other : key_eq j k ≡ false → j ≢ k → Tells j k
 
 key_tells : (j k : Key) → Tells j k
-key_tells j k = ⊎_elim (λ a. ⊎_elim (λ b. same (grind arith) (two a.1 b.1)) (λ b. other (grind arith) (λ e. b.1 (ap (λ k. k.local) e))) (eqb_tells j.local k.local)) (λ a. other (grind arith) (λ e. a.1 (ap (λ k. k.act) e))) (eqb_tells j.act k.act)
+key_tells j k =
+    ⊎_elim (λ a. ⊎_elim (λ b. same (grind arith) (two a.1 b.1)) (λ b. other (grind arith) (λ e. b.1 (ap (λ k. k.local) e))) (eqb_tells j.local k.local))
+    (λ a. other (grind arith) (λ e. a.1 (ap (λ k. k.act) e))) (eqb_tells j.act k.act)
   where
     two : j.act ≡ k.act → j.local ≡ k.local → j ≡ k
     two a b = λ i. record { act = a i; local = b i }

@@ -1,12 +1,12 @@
 -- In a calm run of the memory that copies, each open place is there, and a place that is open for change lies apart from the others.
 use Rattle.std.proofs.Common.{◌≡◌, ◌≢◌, ◌⊎◌, inl, inr, ⊎_elim, ℕ, [], ◌∷◌, ◌++◌, Some, None, refl, sym, ap, ◌∙◌, subst, append-nil}
 use Rattle.std.proofs.lemmas.Bool.Decides.{eqb_tells}
-use Rattle.hy_core.specs.Values.{Val, Unset, Path, get, put, Apart, IsThere, shape, Has, part}
+use Rattle.hy_core.specs.Values.{Val, Unset, Selector, PartAt, ElementAt, Path, get, put, Apart, IsThere, shape, Has, part}
 use Rattle.hy_core.specs.Memory.{Key, Spot, whole, Way, Reads, Writes, way_of, Origin, Copies, set_at, put_back, close_copy, lend_copy, copying, no_copies}
-use Rattle.hy_core.specs.Runs.{Op, Store, Change, Clear, Lend, Hand, Close, Quit, apply}
+use Rattle.hy_core.specs.Runs.{Effect, Store, Change, Clear, Lend, Hand, Close, Quit, apply}
 use Rattle.hy_core.specs.Calm.{IsShut, MayWrite, MayOpen, MayClose, May}
 use Rattle.hy_core.proofs.Keys.{at_key}
-use Rattle.hy_core.proofs.Values.{apart_sym, get_put_below, there_put_below, there_put_apart}
+use Rattle.hy_core.proofs.Values.{apart_sym, apart_diverge, get_put_below, there_put_below, there_put_apart}
 
 -- PATHS
 
@@ -17,15 +17,19 @@ there_put p w u i = subst (λ q. IsThere p (put q w u)) (append-nil p) (there_pu
 pub get_put : (p : Path) (w u : Val) → IsThere p u → get p (put p w u) ≡ w
 get_put p w u i = subst (λ q. get p (put q w u) ≡ w) (append-nil p) (get_put_below p [] w u i)
 
-pub nat_dec : (a b : ℕ) → (a ≡ b) ⊎ (a ≢ b)
+nat_dec : (a b : ℕ) → (a ≡ b) ⊎ (a ≢ b)
 nat_dec a b = ⊎_elim (λ e. inl e.1) (λ e. inr e.1) (eqb_tells a b)
 
 -- nothing that is there goes through what has no parts, so what lies apart from a path below it lies apart from it
-pub apart_unset : (h q r : Path) (i : ℕ) (u : Val) → Apart h (q ++ i ∷ r) → IsThere h u → get q u ≡ Unset → Apart h q
+pub apart_unset : (h q r : Path) (i : Selector) (u : Val) → Apart h (q ++ i ∷ r) → IsThere h u → get q u ≡ Unset → Apart h q
 apart_unset [] q r i u a t e = absurd a
 apart_unset (s ∷ h) [] r i u a t e = let x : Has s (shape Unset) = subst (λ u. Has s (shape u)) e t.0 in absurd x
-apart_unset (s ∷ h) (j ∷ q) r i u (inl n) t e = inl n
-apart_unset (s ∷ h) (j ∷ q) r i u (inr a) t e = ⊎_elim (λ z. inr (apart_unset h q r i (part s u) a t.1 (ap (λ k. get q (part k u)) z ∙ e))) (λ n. inl n) (nat_dec s j)
+apart_unset (PartAt k ∷ h) (PartAt j ∷ q) r i u (inl n) t e = inl n
+apart_unset (PartAt k ∷ h) (PartAt j ∷ q) r i u (inr a) t e =
+    ⊎_elim (λ z. inr (apart_unset h q r i (part (PartAt k) u) a t.1 (ap (λ k. get q (part (PartAt k) u)) z ∙ e))) (λ n. inl n) (nat_dec k j)
+apart_unset (PartAt k ∷ h) (ElementAt j ∷ q) r i u a t e = absurd a
+apart_unset (ElementAt k ∷ h) (PartAt j ∷ q) r i u a t e = absurd a
+apart_unset (ElementAt k ∷ h) (ElementAt j ∷ q) r i u a t e = absurd a
 
 -- WHAT HOLDS OF OPEN PLACES
 
@@ -40,10 +44,11 @@ pub nothing_open : Sound no_copies
 nothing_open = record { apart = λ k l o q e f n b w. absurd (cc); there = λ k o e. absurd (cc) }
 
 -- all that is open from a local is still there after a change apart from it
-there_at : (value : Key → Val) (k : Key) (p : Path) (w : Val) (o : Origin) → IsThere p (value k) → (o.base ≡ k → Apart p o.path) → IsThere o.path (value o.base)
+there_at : (value : Key → Val) (k : Key) (p : Path) (w : Val) (o : Origin) → IsThere p (value k)
+    → (o.base ≡ k → Apart p o.path) → IsThere o.path (value o.base)
     → IsThere o.path (set_at value k (put p w (value k)) o.base)
 there_at value k p w o i a t = at_key value k (put p w (value k)) o.base (IsThere o.path)
-    (λ e. there_put_apart p o.path w (value k) i (a e) (subst (λ k. IsThere o.path (value k)) e t)) (λ n. t)
+    (λ e. there_put_apart p o.path w (value k) i (apart_diverge p o.path (a e)) (subst (λ k. IsThere o.path (value k)) e t)) (λ n. t)
 
 pub store_sound : (m : Copies) (s : Spot) (v : Val) → MayWrite m s → Sound m → Sound (copying.store m s v)
 store_sound m s v may h = record {
@@ -52,12 +57,14 @@ store_sound m s v may h = record {
 }
 
 lend_sound : (m : Copies) (k : Key) (s : Spot) (w : Way) → m.opened k ≡ None → IsShut m k → k ≢ s.key → IsThere s.path (m.value s.key)
-    → ((c : Key) (o : Origin) → m.opened c ≡ Some o → o.base ≡ s.key → (w ≡ Writes) ⊎ (o.way ≡ Writes) → Apart o.path s.path) → Sound m → Sound (lend_copy m k s w)
+    → ((c : Key) (o : Origin) → m.opened c ≡ Some o → o.base ≡ s.key → (w ≡ Writes) ⊎ (o.way ≡ Writes) → Apart o.path s.path) → Sound m
+    → Sound (lend_copy m k s w)
 lend_sound m k s w closed shut other there free h = record {
   apart = λ j l o q e f n b x. at_key m.opened k _ j (λ y. y ≡ Some o → Apart o.path q.path)
       (λ ej y. let z = some_is _ o y in at_key m.opened k _ l (λ y. y ≡ Some q → Apart o.path q.path)
       (λ el _. absurd (n (ej ∙ sym el)))
-      (λ nl y'. subst (λ p. Apart p q.path) (ap (λ o. o.path) z) (apart_sym q.path s.path (free l q y' (sym b ∙ ap (λ o. o.base) (sym z)) (inl (ap (λ o. o.way) z ∙ x))))) f)
+      (λ nl y'. subst (λ p. Apart p q.path) (ap (λ o. o.path) z)
+      (apart_sym q.path s.path (free l q y' (sym b ∙ ap (λ o. o.base) (sym z)) (inl (ap (λ o. o.way) z ∙ x))))) f)
       (λ nj y. at_key m.opened k _ l (λ y. y ≡ Some q → Apart o.path q.path)
       (λ el y'. let z = some_is _ q y' in subst (Apart o.path) (ap (λ o. o.path) z) (free j o y (b ∙ ap (λ o. o.base) (sym z)) (inr x)))
       (λ nl y'. h.apart j l o q y y' n b x) f) e;
@@ -80,15 +87,17 @@ close_sound m k may h = subst (λ x. Sound (close_copy m k x)) (sym may.opened) 
     back : (w : Way) → may.origin.way ≡ w → (j : Key) (o : Origin) → j ≢ k → m.opened j ≡ Some o → IsThere o.path (put_back m.value k may.origin w o.base)
     back Reads z j o n e = h.there j o e
     back Writes z j o n e =
-        there_at m.value may.origin.base may.origin.path (m.value k) o (h.there k may.origin may.opened) (λ b. h.apart k j may.origin o may.opened e (λ q. n (sym q)) (sym b) z) (h.there j o e)
+        there_at m.value may.origin.base may.origin.path (m.value k) o (h.there k may.origin may.opened)
+        (λ b. h.apart k j may.origin o may.opened e (λ q. n (sym q)) (sym b) z) (h.there j o e)
 
-pub sound_apply : (o : Op) (m : Copies) → May o m → Sound m → Sound (apply copying o m)
+pub sound_apply : (o : Effect) (m : Copies) → May o m → Sound m → Sound (apply copying o m)
 sound_apply (Store s v) m may h = store_sound m s v may h
 sound_apply (Change s v) m may h = store_sound m s v may h
 sound_apply (Clear s) m may h = store_sound m s Unset may h
 sound_apply (Lend k s way) m may h = lend_sound m k s way may.closed may.shut may.other may.there (free way may.free) h
   where
-    free : (way : Way) → MayOpen m s way → (c : Key) (o : Origin) → m.opened c ≡ Some o → o.base ≡ s.key → (way ≡ Writes) ⊎ (o.way ≡ Writes) → Apart o.path s.path
+    free : (way : Way) → MayOpen m s way → (c : Key) (o : Origin) → m.opened c ≡ Some o → o.base ≡ s.key → (way ≡ Writes) ⊎ (o.way ≡ Writes)
+        → Apart o.path s.path
     free Reads f c o e b (inl x) = absurd (cc)
     free Reads f c o e b (inr x) = f.apart c o e b x
     free Writes f c o e b x = f.apart c o e b

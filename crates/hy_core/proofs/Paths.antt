@@ -1,6 +1,7 @@
 -- What is left of a body goes its paths to the end.
 use Rattle.std.proofs.Common.{◌≡◌, ℕ, Bool, true, Some, refl, sym, subst}
-use Rattle.hy_core.specs.Plain.{Stmts, Done, Then, Stmt, Built, Set, Lend, Close, Move, Copy, Drop, Call, Project, Slide, Yield, If, While, Break, Continue, Leave}
+use Rattle.hy_core.specs.Plain.{Stmts, Done, Then, Stmt, Built, Set, Lend, Close, Move, Copy, Drop, Call, Project, Slide, Yield, If, While, Break, Continue}
+use Rattle.hy_core.specs.Plain.{Leave}
 use Rattle.hy_core.specs.Control.{Work, Idle, Rest, Loop, Test, Drops}
 use Rattle.hy_core.specs.Statements.{broken, continued}
 use Rattle.hy_core.specs.Shaped.{GoesAll, Goes}
@@ -9,12 +10,14 @@ abbrev Implies : (Bool → Type 0) → (Bool → Type 0) → Type 0
 Implies A B = (y : Bool) → A y → B y
 
 mutual
-  pub goes_all_map : (ramp : Bool) (ss : Stmts) (y : Bool) (A B C D E F : Bool → Type 0) → Implies A D → Implies B E → Implies C F → GoesAll ramp ss y A B C → GoesAll ramp ss y D E F
+  pub goes_all_map : (ramp : Bool) (ss : Stmts) (y : Bool) (A B C D E F : Bool → Type 0) → Implies A D → Implies B E → Implies C F → GoesAll ramp ss y A B C
+      → GoesAll ramp ss y D E F
   goes_all_map ramp Done y A B C D E F f g h x = f y x
   goes_all_map ramp (Then s ss) y A B C D E F f g h x =
       goes_map ramp s y (λ z. GoesAll ramp ss z A B C) B C (λ z. GoesAll ramp ss z D E F) E F (λ z x. goes_all_map ramp ss z A B C D E F f g h x) g h x
 
-  goes_map : (ramp : Bool) (s : Stmt) (y : Bool) (A B C D E F : Bool → Type 0) → Implies A D → Implies B E → Implies C F → Goes ramp s y A B C → Goes ramp s y D E F
+  goes_map : (ramp : Bool) (s : Stmt) (y : Bool) (A B C D E F : Bool → Type 0) → Implies A D → Implies B E → Implies C F → Goes ramp s y A B C
+      → Goes ramp s y D E F
   goes_map ramp (Built operator to from spans) y A B C D E F f g h x = f y x
   goes_map ramp (Set to n) y A B C D E F f g h x = f y x
   goes_map ramp (Lend to place w) y A B C D E F f g h x = f y x
@@ -30,7 +33,8 @@ mutual
   goes_map ramp (While head on body) y A B C D E F f g h x =
       goes_all_map ramp head y (λ z. (z ≡ y) × A z × GoesAll ramp body z (λ u. u ≡ y) A (λ u. u ≡ y)) (λ z. ⊥) (λ z. ⊥)
       (λ z. (z ≡ y) × D z × GoesAll ramp body z (λ u. u ≡ y) D (λ u. u ≡ y)) (λ z. ⊥) (λ z. ⊥)
-      (λ z k. (k.0, f z k.1, goes_all_map ramp body z (λ u. u ≡ y) A (λ u. u ≡ y) (λ u. u ≡ y) D (λ u. u ≡ y) (λ u e. e) f (λ u e. e) k.2)) (λ z e. e) (λ z e. e) x
+      (λ z k. (k.0, f z k.1, goes_all_map ramp body z (λ u. u ≡ y) A (λ u. u ≡ y) (λ u. u ≡ y) D (λ u. u ≡ y) (λ u e. e) f (λ u e. e) k.2)) (λ z e. e)
+      (λ z e. e) x
   goes_map ramp Break y A B C D E F f g h x = g y x
   goes_map ramp Continue y A B C D E F f g h x = h y x
   goes_map ramp (Leave from) y A B C D E F f g h x = x
@@ -65,15 +69,22 @@ abbrev mutual
 
 module _ (ramp : Bool) where
   -- the head of a loop is followed by its test, and a pass by the head
-  pub head_goes : (head : Stmts) (on : ℕ) (body : Stmts) (w : Work) (y : Bool) → LoopGoes ramp head body (WorkGoes ramp w) y → WorkGoes ramp (Rest head (Test head on body w)) y
+  pub head_goes : (head : Stmts) (on : ℕ) (body : Stmts) (w : Work) (y : Bool) → LoopGoes ramp head body (WorkGoes ramp w) y
+      → WorkGoes ramp (Rest head (Test head on body w)) y
   head_goes head on body w y h = goes_all_map ramp head y _ (λ z. ⊥) (λ z. ⊥) (WorkGoes ramp (Test head on body w)) (λ z. ⊥) (λ z. ⊥)
-      (λ z k. (subst (LoopGoes ramp head body (WorkGoes ramp w)) (sym k.0) h, k.1, subst (λ y. GoesAll ramp body z (λ u. u ≡ y) (WorkGoes ramp w) (λ u. u ≡ y)) (sym k.0) k.2))
+      (λ z k. (
+        subst (LoopGoes ramp head body (WorkGoes ramp w)) (sym k.0) h,
+        k.1,
+        subst (λ y. GoesAll ramp body z (λ u. u ≡ y) (WorkGoes ramp w) (λ u. u ≡ y)) (sym k.0) k.2,
+      ))
       (λ z e. e) (λ z e. e) h
 
-  pub pass_goes : (head : Stmts) (on : ℕ) (body : Stmts) (w : Work) (y : Bool) → WorkGoes ramp (Test head on body w) y → WorkGoes ramp (Rest body (Loop head on body w)) y
+  pub pass_goes : (head : Stmts) (on : ℕ) (body : Stmts) (w : Work) (y : Bool) → WorkGoes ramp (Test head on body w) y
+      → WorkGoes ramp (Rest body (Loop head on body w)) y
   pass_goes head on body w y h =
       let again : Implies (λ u. u ≡ y) (LoopGoes ramp head body (WorkGoes ramp w)) = λ u e. subst (LoopGoes ramp head body (WorkGoes ramp w)) (sym e) h.0 in
-      goes_all_map ramp body y (λ u. u ≡ y) (WorkGoes ramp w) (λ u. u ≡ y) (LoopGoes ramp head body (WorkGoes ramp w)) (WorkGoes ramp w) (LoopGoes ramp head body (WorkGoes ramp w)) again (λ z e. e) again h.2
+      goes_all_map ramp body y (λ u. u ≡ y) (WorkGoes ramp w) (λ u. u ≡ y) (LoopGoes ramp head body (WorkGoes ramp w)) (WorkGoes ramp w)
+      (LoopGoes ramp head body (WorkGoes ramp w)) again (λ z e. e) again h.2
 
   pub break_goes : (w : Work) (y : Bool) → BreakGoes ramp w y → (v : Work) × (broken w ≡ Some v) × WorkGoes ramp v y
   break_goes Idle y h = absurd h

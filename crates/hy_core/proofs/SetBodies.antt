@@ -1,33 +1,38 @@
--- Bodies of a checked core that is told: what ends, slides and yields hands on what is set.
-use Rattle.std.proofs.Common.{◌≡◌, ◌≢◌, ◌⊎◌, inl, inr, ⊎_elim, ℕ, zero, suc, ◌<◌, ◌≤◌, ◌==◌, true, false, cond, List, [], ◌∷◌, ◌++◌, length, Option, Some, None, slice_get, refl, sym, ap, ◌∙◌, subst, arith}
+-- Bodies of a checked core that has a flow: what ends, slides and yields hands on what is set.
+use Rattle.std.proofs.Common.{◌≡◌, ◌≢◌, ◌⊎◌, inl, inr, ⊎_elim, ℕ, zero, suc, ◌<◌, ◌≤◌, ◌==◌, true, false, cond, List, [], ◌∷◌, ◌++◌, length, Option, Some}
+use Rattle.std.proofs.Common.{None, slice_get, refl, sym, ap, ◌∙◌, subst, arith}
 use Rattle.std.proofs.lemmas.Bool.Decides.{eqb_tells}
 use Rattle.hy_base.specs.declared.run.End.TheVariants as end
 use Rattle.hy_types.specs.declared.kinds.TyId.{TyId}
-use Rattle.hy_core.specs.Plain.{Place, Leave, Fun}
+use Rattle.hy_core.specs.Plain.{Place, Leave, Fun, is_ramp, lent_types}
 use Rattle.hy_core.specs.Values.{Val, Path, is_whole, Unset, Number, Truth, Tuple, Product, Array, get, is_blank}
 use Rattle.hy_core.specs.Memory.{Key, set_at, Way, Origin, Copies, way_of, close_copy, copying}
-use Rattle.hy_core.specs.Runs as op
-use Rattle.hy_core.specs.Runs.{Talk, Ask, Look, Tell, Next, apply}
+use Rattle.hy_core.specs.Runs as effect
+use Rattle.hy_core.specs.Runs.{Interaction, Fetch, Inspect, Perform, Return, apply}
 use Rattle.hy_core.specs.Calm.{MayHand, MayClose}
 use Rattle.hy_core.specs.Control as control
-use Rattle.hy_core.specs.Control.{Form, Numbers, Flags, Tuples, Products, Arrays, Unknown, form, local_type, Work, Idle, Rest, Loop, Test, Drops, Dest, Opens, Nowhere, Activation, Nap, Halt, Ends, Stuck, NotSet, NotOpened, Control, Stage, Deinitialises, GivesUp, Setting, stop, with_work, key, with_some, spot, read, take, write, sleeper_of, wake}
+use Rattle.hy_core.specs.Control.{Form, Numbers, Flags, Tuples, Products, Arrays, Unknown, form, local_type, Work, Idle, Rest, Loop, Test, Drops, Dest}
+use Rattle.hy_core.specs.Control.{Opens, Nowhere, Activation, Nap, Halt, Ends, Stuck, NotSet, NotOpened, Control, Stage, Deinitialises, GivesUp, Setting}
+use Rattle.hy_core.specs.Control.{stop, with_work, key, with_some, spot, read, take, write, sleeper_of, wake}
 use Rattle.hy_core.specs.Statements.{close_all, back, yield_to, slide_of, does}
 use Rattle.hy_core.specs.Typing.{IsLeaf}
 use Rattle.hy_core.specs.Shaped.{IsOf, Leaves, Shaped}
-use Rattle.hy_core.specs.Told.{Loan, Status, Own, Param, Opened, Bound, Standing, IsSet, IsUnset, Cover, all_set, none_set, cover_at, with_cover, Face, Sign, Scene, set_local, with_standing, with_status, is_exact, IsEntered, IsSetAt, IsLocalSet, ReadOk, StoreOk, GiveOk, TakeOk, given, stored, Leads, IsOpen, IsLast, Slides}
-use Rattle.hy_core.specs.Told as told
+use Rattle.hy_core.specs.Flow.{Loan, Status, Own, Param, Opened, Bound, InitState, IsSet, IsUnset, InitMap, all_set, none_set, map_at, with_map, FlowState}
+use Rattle.hy_core.specs.Flow.{Signature, Context, set_local, with_init, with_status, is_exact, IsEntered, IsSetAt, IsLocalSet, ReadOk, StoreOk, GiveOk}
+use Rattle.hy_core.specs.Flow.{TakeOk, given, stored, FlowsInto, IsOpen, IsLast, Slides}
+use Rattle.hy_core.specs.Flow as transfer
 use Rattle.hy_core.specs.Dropped.{IsGone}
 use Rattle.hy_core.proofs.Keys.{set_same, set_other, at_key}
 use Rattle.hy_core.proofs.OpenPlaces.{Sound, sound_apply}
 use Rattle.hy_core.proofs.Typed.{form_at, Fits}
-use Rattle.hy_core.proofs.CalmTalks.{at}
-use Rattle.hy_core.proofs.CalmFrames.{scene, wake_is, some_is}
+use Rattle.hy_core.proofs.CalmWalks.{at}
+use Rattle.hy_core.proofs.CalmFrames.{context, wake_is, some_is}
 use Rattle.hy_core.proofs.CalmStatements.{Ended, slides_end}
 use Rattle.hy_core.proofs.CalmSteps.{like_self}
 use Rattle.hy_core.proofs.SetValues.{Sets, sets_whole, Meets, leaves_blank}
-use Rattle.hy_core.proofs.SetMemories.{Covers, NotAway, Holds, holds_hand, returned, closed_here}
-use Rattle.hy_core.proofs.SetTalks.{Fine, over, stands, Sure, Tie}
-use Rattle.hy_core.proofs.SetFrames.{Tells_less, WorkSet, World, Frame, WaitsFor, Writes_back, Runs_on, CallersSet, Stands, Changes, frame_keep, callers_keep}
+use Rattle.hy_core.proofs.SetMemories.{InitMaps, NotAway, Holds, holds_hand, returned, closed_here}
+use Rattle.hy_core.proofs.SetWalks.{Fine, over, stands, Sure, Tie}
+use Rattle.hy_core.proofs.SetFrames.{SameInit, WorkSet, World, Frame, WaitsFor, Writes_back, Runs_on, CallersSet, Stands, Changes, frame_keep, callers_keep}
 use Rattle.hy_core.proofs.SetSteps.{Ids, Here, now_here, done, takes, writes, whole_local, NowOf}
 
 -- a local among the first ones is one of them
@@ -40,21 +45,23 @@ act_is : (a b : Activation) → Some a ≡ Some b → a ≡ b
 act_is a b e = cc
 
 -- the way in which an open local is open
-pub way_tied : (types : _) (f : Fun) (id l : ℕ) (s : Status) (w : Way) (slot : Option Origin) → Tie types f id l s slot → IsOpen s w → (o : Origin) → slot ≡ Some o → o.way ≡ w
+pub way_tied : (types : _) (f : Fun) (id l : ℕ) (s : Status) (w : Way) (slot : Option Origin) → Tie types f id l s slot → IsOpen s w → (o : Origin)
+    → slot ≡ Some o → o.way ≡ w
 way_tied types f id l Own w slot t open_so o e = absurd open_so
 way_tied types f id l (Param u) w slot t open_so o e = (t o e).1 ∙ open_so
 way_tied types f id l (Opened loan) w slot t open_so o e = let y = t o e in y.way ∙ open_so
 way_tied types f id l (Bound u) w slot t open_so o e = (t o e).1 ∙ open_so
 
-module _ (p : Setting) (signs : ℕ → Sign) where
+module _ (p : Setting) (signatures : ℕ → Signature) where
   -- a frame that goes on in another way
-  abbrev pub frame_with : (n : ℕ) (W : World) (id : ℕ) (fun : Fun) (G G' : ℕ → Face → Type 0) → (f : Frame p signs n W id fun G) → G' f.number f.face → Frame p signs n W id fun G'
+  abbrev pub frame_with : (n : ℕ) (W : World) (id : ℕ) (fun : Fun) (G G' : ℕ → FlowState → Type 0) → (f : Frame p signatures n W id fun G)
+      → G' f.number f.flow → Frame p signatures n W id fun G'
   frame_with n W id fun G G' f goes = record {
     number = f.number;
     found = f.found;
     below = f.below;
     locals = f.locals;
-    face = f.face;
+    flow = f.flow;
     agrees = f.agrees;
     ties = f.ties;
     params = f.params;
@@ -63,29 +70,30 @@ module _ (p : Setting) (signs : ℕ → Sign) where
     goes = goes;
   }
 
-  module _ (sh : Shaped p.core) (c : Control) (m : Copies) (number : ℕ) (g : Face) (here : Here p signs c m number g) where
-    abbrev x : Scene
-    x = scene p signs number c.now.fun
+  module _ (sh : Shaped p.core) (c : Control) (m : Copies) (number : ℕ) (g : FlowState) (here : Here p signatures c m number g) where
+    abbrev x : Context
+    x = context p signatures number c.now.fun
 
     abbrev S : Control → Copies → Type 0
-    S = Stands p signs
+    S = Stands p signatures
 
-    abbrev Left : Face → Type 0
-    Left d = WorkSet (scene p signs number c.now.fun) c.now.work d
+    abbrev Left : FlowState → Type 0
+    Left d = WorkSet (context p signatures number c.now.fun) c.now.work d
 
     abbrev mine : ℕ → Key
     mine l = at c.now.id l
 
-    -- the frame of the activation, with a face that tells the same
-    own_less : (d : Face) → Tells_less (scene p signs number c.now.fun) g d → WorkSet (scene p signs number c.now.fun) c.now.work d
-        → Frame p signs c.started (record { ty = here.ty; covers = here.covers; promised = here.promised; slots = m.opened }) c.now.id c.now.fun (Runs_on p signs (record (c.now) { dest = Nowhere }))
+    -- the frame of the activation, with a flow state that says the same
+    own_less : (d : FlowState) → SameInit (context p signatures number c.now.fun) g d → WorkSet (context p signatures number c.now.fun) c.now.work d
+        → Frame p signatures c.started (record { ty = here.ty; maps = here.maps; promised = here.promised; slots = m.opened }) c.now.id c.now.fun
+        (Runs_on p signatures (record (c.now) { dest = Nowhere }))
     own_less d less w = record {
       number = number;
       found = here.found;
       below = here.below;
       locals = here.locals;
-      face = d;
-      agrees = λ j t q e leaf. sym (less.standing j t q e leaf) ∙ here.agrees j t q e leaf;
+      flow = d;
+      agrees = λ j t q e leaf. sym (less.init j t q e leaf) ∙ here.agrees j t q e leaf;
       ties = λ j. subst (λ s. Tie p.core.types c.now.fun c.now.id j s (m.opened (at c.now.id j))) (less.status j) (here.ties j);
       params = λ j lt. let r = here.params j lt in (r.0, sym (less.status j) ∙ r.1);
       bound = λ j w e q. here.bound j w (less.status j ∙ e) q;
@@ -95,72 +103,107 @@ module _ (p : Setting) (signs : ℕ → Sign) where
 
     -- LEAVING
 
-    module _ (given_covers : Covers) (last : Face) (agrees : (l : ℕ) (t : TyId) (q : Path) → local_type c.now.fun l ≡ Some t → IsLeaf p.core.types t q → last.standing l q ≡ given_covers (at c.now.id l) q)
-        (leaves : (l : ℕ) (t : TyId) → slice_get c.now.fun.lent l ≡ Some t → (q : Path) → IsLeaf p.core.types t q → last.standing l q ≡ ((signs number).lent l).behind q) where
+    module _ (given_maps : InitMaps) (last : FlowState) (agrees : (l : ℕ) (t : TyId) (q : Path) → local_type c.now.fun l ≡ Some t → IsLeaf p.core.types t q
+        → last.init l q ≡ given_maps (at c.now.id l) q)
+        (leaves : (l : ℕ) (t : TyId) → slice_get (lent_types c.now.fun) l ≡ Some t → (q : Path) → IsLeaf p.core.types t q
+        → last.init l q ≡ ((signatures number).lent l).after q) where
       -- what is known while the parameters close; those below i are still open
       record Closing (i : ℕ) (m' : Copies) : Type 0 where
-        covers : Covers
-        holds : Holds p.core.types here.ty c.started covers here.promised m'
+        maps : InitMaps
+        holds : Holds p.core.types here.ty c.started maps here.promised m'
         sound : Sound m'
-        others : (k : Key) → k.act ≢ c.now.id → covers k ≡ here.covers k
+        others : (k : Key) → k.act ≢ c.now.id → maps k ≡ here.maps k
         slots : (k : Key) → k.act ≢ c.now.id → m'.opened k ≡ m.opened k
-        left : (j : ℕ) → j < i → (covers (at c.now.id j) ≡ given_covers (at c.now.id j)) × (m'.opened (at c.now.id j) ≡ m.opened (at c.now.id j))
+        left : (j : ℕ) → j < i → (maps (at c.now.id j) ≡ given_maps (at c.now.id j)) × (m'.opened (at c.now.id j) ≡ m.opened (at c.now.id j))
 
-      closing : (i : ℕ) (m' : Copies) → suc i ≤ length c.now.fun.lent → Closing (suc i) m' → MayClose m' (mine i) → Closing i (close_copy m' (mine i) (m'.opened (mine i)))
+      closing : (i : ℕ) (m' : Copies) → suc i ≤ length (lent_types c.now.fun) → Closing (suc i) m' → MayClose m' (mine i)
+          → Closing i (close_copy m' (mine i) (m'.opened (mine i)))
       closing i m' le h may = subst (λ y. Sound (close_copy m' (mine i) y) → Closing i (close_copy m' (mine i) y)) (sym may.opened) (λ sound. record {
-        covers = set_at h.covers (mine i) none_set;
-        holds = returned p.core.types here.ty c.started h.covers (set_at h.covers (mine i) none_set) here.promised m' (mine i) may.origin h.holds may.opened may
-            (λ e. foreign (sym e)) (set_same h.covers (mine i) none_set) (λ k n. set_other h.covers (mine i) none_set k n)
-            (λ t q y leaf. here.promises i le q ∙ sym (leaves i t (sym (slice_front c.now.fun.lent (c.now.fun.owned ++ c.now.fun.locals) i le) ∙ sym (here.locals i) ∙ y) q leaf)
+        maps = set_at h.maps (mine i) none_set;
+        holds = returned p.core.types here.ty c.started h.maps (set_at h.maps (mine i) none_set) here.promised m' (mine i) may.origin h.holds may.opened may
+            (λ e. foreign (sym e)) (set_same h.maps (mine i) none_set) (λ k n. set_other h.maps (mine i) none_set k n)
+            (λ t q y leaf. here.promises i le q
+            ∙ sym (leaves i t (sym (slice_front (lent_types c.now.fun) (c.now.fun.owned ++ c.now.fun.locals) i le) ∙ sym (here.locals i) ∙ y) q leaf)
             ∙ agrees i t q (sym (here.locals i) ∙ y) leaf ∙ ap (λ c. c q) (sym (h.left i (omega arith)).0));
         sound = sound;
-        others = λ k n. set_other h.covers (mine i) none_set k (λ z. n (ap (λ k. k.act) z)) ∙ h.others k n;
+        others = λ k n. set_other h.maps (mine i) none_set k (λ z. n (ap (λ k. k.act) z)) ∙ h.others k n;
         slots = λ k n. set_other m'.opened (mine i) None k (λ z. n (ap (λ k. k.act) z)) ∙ h.slots k n;
-        left = λ j lt. let a = h.left j (omega arith) in (set_other h.covers (mine i) none_set (mine j) (λ z. differ j lt (ap (λ k. k.local) z)) ∙ a.0, set_other m'.opened (mine i) None (mine j) (λ z. differ j lt (ap (λ k. k.local) z)) ∙ a.1);
-      }) (sound_apply (op.Close (mine i)) m' may h.sound)
+        left = λ j lt. let a = h.left j (omega arith) in (
+          set_other h.maps (mine i) none_set (mine j) (λ z. differ j lt (ap (λ k. k.local) z))
+              ∙ a.0,
+          set_other m'.opened (mine i) None (mine j) (λ z. differ j lt (ap (λ k. k.local) z)) ∙ a.1,
+        );
+      }) (sound_apply (effect.Close (mine i)) m' may h.sound)
         where
           differ : (j : ℕ) → j < i → j ≡ i → ⊥
           differ j lt e = absurd (omega arith)
 
           foreign : may.origin.base.act ≢ c.now.id
-          foreign = let r = here.params i le in let t = here.ties i in (subst (λ s. Tie p.core.types c.now.fun c.now.id i s (m.opened (mine i))) r.1 t may.origin (sym (h.left i (omega arith)).1 ∙ may.opened)).0
+          foreign = let r = here.params i le in let t = here.ties i in
+              (subst (λ s. Tie p.core.types c.now.fun c.now.id i s (m.opened (mine i))) r.1 t may.origin (sym (h.left i (omega arith)).1 ∙ may.opened)).0
 
-      close_loop : (e : Control) (t : Talk Control) → e.now.id ≡ c.now.id → ((m' : Copies) → Closing 0 m' → Sure S t m') → (i : ℕ) (m' : Copies) → i ≤ length c.now.fun.lent → Closing i m' → Sure S (close_all e i t) m'
+      close_loop : (e : Control) (t : Interaction Control) → e.now.id ≡ c.now.id → ((m' : Copies) → Closing 0 m' → Sure S t m') → (i : ℕ) (m' : Copies)
+          → i ≤ length (lent_types c.now.fun) → Closing i m' → Sure S (close_all e i t) m'
       close_loop e t same next zero m' le h = next m' h
-      close_loop e t same next (suc i) m' le h = subst (λ a. Sure S (Tell (op.Close (at a i)) (close_all e i t)) m') (sym same)
+      close_loop e t same next (suc i) m' le h = subst (λ a. Sure S (Perform (effect.Close (at a i)) (close_all e i t)) m') (sym same)
           (λ calm. (tt, close_loop e t same next i _ (omega arith) (closing i m' le h calm.0) calm.1))
 
       -- the caller goes on
-      module _ (m' : Copies) (cl : Closing 0 m') (turns n_opened : ℕ) (input output : List ℕ) (v : Val) (u : TyId) (fits : Fits p.core.types (form p.core.types u) v) (is : is_whole v ≡ true) (result : Leaves p.core c.now.fun c.now.fun.ramp u) where
+      module _ (m' : Copies) (cl : Closing 0 m') (turns n_opened : ℕ) (input output : List ℕ) (v : Val) (u : TyId)
+          (fits : Fits p.core.types (form p.core.types u) v) (is : is_whole v ≡ true) (result : Leaves p.core c.now.fun (is_ramp c.now.fun) u) where
         abbrev E : Control
         E = record c { turns = turns; opened = n_opened; input = input; output = output }
 
-        changes : Changes p signs c.now.id c.now.id c.started c.started (record { ty = here.ty; covers = here.covers; promised = here.promised; slots = m.opened }) (record { ty = here.ty; covers = cl.covers; promised = here.promised; slots = m'.opened })
-        changes = record { more = omega arith; ty = λ k b i j. refl; covers = λ k b i j. cl.others k i; promised = λ k b i j. refl; slots = λ k b i j. cl.slots k i }
+        changes : Changes p signatures c.now.id c.now.id c.started c.started (record {
+          ty = here.ty;
+          maps = here.maps;
+          promised = here.promised;
+          slots =
+              m.opened;
+        }) (record { ty = here.ty; maps = cl.maps; promised = here.promised; slots = m'.opened })
+        changes = record {
+          more = omega arith;
+          ty = λ k b i j. refl;
+          maps = λ k b i j. cl.others k i;
+          promised = λ k b i j. refl;
+          slots =
+              λ k b i j. cl.slots k i;
+        }
 
-        back_set : (callers : List Activation) (dest : Dest) → CallersSet p signs c.started (record { ty = here.ty; covers = here.covers; promised = here.promised; slots = m.opened }) c.now.fun.ramp c.now.fun.result (signs number).yields dest callers
-            → Ids c.now.id callers (sleeper_of c.asleep) → Sure S (back p (record c { turns = turns; opened = n_opened; input = input; output = output }) callers v dest) m'
+        back_set : (callers : List Activation) (dest : Dest)
+            → CallersSet p signatures c.started (record { ty = here.ty; maps = here.maps; promised = here.promised; slots = m.opened }) (is_ramp c.now.fun)
+            c.now.fun.result (signatures number).yields dest callers
+            → Ids c.now.id callers (sleeper_of c.asleep)
+            → Sure S (back p (record c { turns = turns; opened = n_opened; input = input; output = output }) callers v dest) m'
         back_set [] dest h ids calm = over (Ends end.Done) refl (λ e. absurd (cc))
         back_set (a ∷ rest) (Opens l) h ids calm = over Stuck refl (λ e. absurd (cc))
-        back_set (a ∷ rest) Nowhere h ids calm = let f = frame_keep p signs c.now.id c.now.id c.started c.started _ _ changes a.id a.fun (WaitsFor p signs a c.now.fun.ramp c.now.fun.result (signs number).yields Nowhere) (λ e. ids.not_now.0 (sym e)) (λ e. ids.not_now.0 (sym e)) h.0 in
+        back_set (a ∷ rest) Nowhere h ids calm = let f =
+            frame_keep p signatures c.now.id c.now.id c.started c.started _ _ changes a.id a.fun
+            (WaitsFor p signatures a (is_ramp c.now.fun) c.now.fun.result (signatures number).yields Nowhere) (λ e. ids.not_now.0 (sym e))
+            (λ e. ids.not_now.0 (sym e)) h.0 in
             stands (record {
               none = here.none;
               ty = here.ty;
-              covers = cl.covers;
+              maps = cl.maps;
               promised = here.promised;
               holds = cl.holds;
               sound = cl.sound;
-              now = frame_with c.started _ a.id a.fun (WaitsFor p signs a c.now.fun.ramp c.now.fun.result (signs number).yields Nowhere) (Runs_on p signs a) f f.goes;
-              callers = callers_keep p signs c.now.id c.now.id c.started c.started _ _ changes a.fun.ramp a.fun.result (signs f.number).yields a.dest rest ids.not_now.1 ids.not_now.1 h.1;
-              asleep = λ k b e. frame_keep p signs c.now.id c.now.id c.started c.started _ _ changes b.id b.fun (Runs_on p signs b) (ids.other k b e) (ids.other k b e) (here.asleep k b e);
+              now = frame_with c.started _ a.id a.fun (WaitsFor p signatures a (is_ramp c.now.fun) c.now.fun.result (signatures number).yields Nowhere)
+                  (Runs_on p signatures a) f f.goes;
+              callers = callers_keep p signatures c.now.id c.now.id c.started c.started _ _ changes (is_ramp a.fun) a.fun.result
+                  (signatures f.number).yields a.dest rest ids.not_now.1 ids.not_now.1 h.1;
+              asleep = λ k b e. frame_keep p signatures c.now.id c.now.id c.started c.started _ _ changes b.id b.fun (Runs_on p signatures b)
+                  (ids.other k b e) (ids.other k b e) (here.asleep k b e);
             })
         back_set (a ∷ rest) (control.Result place) h ids calm =
-            let f = frame_keep p signs c.now.id c.now.id c.started c.started _ _ changes a.id a.fun (WaitsFor p signs a c.now.fun.ramp c.now.fun.result (signs number).yields (control.Result place)) (λ e. ids.not_now.0 (sym e)) (λ e. ids.not_now.0 (sym e)) h.0 in
+            let f = frame_keep p signatures c.now.id c.now.id c.started c.started _ _ changes a.id a.fun
+            (WaitsFor p signatures a (is_ramp c.now.fun) c.now.fun.result (signatures number).yields (control.Result place))
+            (λ e. ids.not_now.0 (sym e)) (λ e. ids.not_now.0 (sym e)) h.0 in
             let k : Control = record c { turns = turns; opened = n_opened; input = input; output = output; now = a; callers = rest } in
-            let here_a : Here p signs k m' f.number f.face = record {
+            let here_a : Here p signatures k m' f.number f.flow = record {
               none = here.none;
               ty = here.ty;
-              covers = cl.covers;
+              maps = cl.maps;
               promised = here.promised;
               holds = cl.holds;
               sound = cl.sound;
@@ -172,80 +215,128 @@ module _ (p : Setting) (signs : ℕ → Sign) where
               params = f.params;
               bound = f.bound;
               promises = f.promises;
-              callers = callers_keep p signs c.now.id c.now.id c.started c.started _ _ changes a.fun.ramp a.fun.result (signs f.number).yields a.dest rest ids.not_now.1 ids.not_now.1 h.1;
-              asleep = λ k b e. frame_keep p signs c.now.id c.now.id c.started c.started _ _ changes b.id b.fun (Runs_on p signs b) (ids.other k b e) (ids.other k b e) (here.asleep k b e);
-              ids = record { not_now = ids.distinct.0; distinct = ids.distinct.1; nowhere = ids.nowhere; other = λ k b e. (ids.apart k b e).0; apart = λ k b e. (ids.apart k b e).1; alone = ids.alone };
+              callers = callers_keep p signatures c.now.id c.now.id c.started c.started _ _ changes (is_ramp a.fun) a.fun.result
+                  (signatures f.number).yields a.dest rest ids.not_now.1 ids.not_now.1 h.1;
+              asleep = λ k b e. frame_keep p signatures c.now.id c.now.id c.started c.started _ _ changes b.id b.fun (Runs_on p signatures b)
+                  (ids.other k b e) (ids.other k b e) (here.asleep k b e);
+              ids = record {
+                not_now = ids.distinct.0;
+                distinct = ids.distinct.1;
+                nowhere = ids.nowhere;
+                other = λ k b e. (ids.apart k b e).0;
+                apart =
+                    λ k b e. (ids.apart k b e).1;
+                alone = ids.alone;
+              };
             } in
-            let w : Writes_back p signs (scene p signs f.number a.fun) f.face a.work place = f.goes.2 in
+            let w : Writes_back p signatures (context p signatures f.number a.fun) f.flow a.work place = f.goes.2 in
             let same : u ≡ c.now.fun.result = (let r : Leaves p.core c.now.fun false u = subst (λ b. Leaves p.core c.now.fun b u) f.goes.0 result in r) in
             let of : IsOf p.core a.fun u place = subst (λ t. IsOf p.core a.fun t place) (sym same) f.goes.1 in
-            writes p signs sh k m' f.number f.face here_a f.face m' (now_here p signs sh k m' f.number f.face here_a) place u v Next of w.store fits is
-            (λ e m'' like now calm. done p signs sh k m' f.number f.face here_a w.next w.work (stored (scene p signs f.number a.fun) f.face place) e m'' like now w.leads) k (like_self k) calm
+            writes p signatures sh k m' f.number f.flow here_a f.flow m' (now_here p signatures sh k m' f.number f.flow here_a) place u v Return of w.store
+            fits is
+            (λ e m'' like now calm. done p signatures sh k m' f.number f.flow here_a w.next w.work
+            (stored (context p signatures f.number a.fun) f.flow place) e m'' like now w.flows) k (like_self k) calm
 
     -- what is owned is closed, and nothing of it is set
-    gone : (h : Face) (m' : Copies) (now : NowOf p signs sh c m number g here h m') → IsLast (scene p signs number c.now.fun) h → (j : ℕ) → length c.now.fun.lent ≤ j → IsGone m' (mine j)
+    gone : (h : FlowState) (m' : Copies) (now : NowOf p signatures sh c m number g here h m') → IsLast (context p signatures number c.now.fun) h → (j : ℕ)
+        → length (lent_types c.now.fun) ≤ j → IsGone m' (mine j)
     gone h m' now last j le = record {
       closed = closed;
       blank = by (local_type c.now.fun j) refl;
     }
       where
         closed : m'.opened (mine j) ≡ None
-        closed = let t = now.ties j in ap (λ s. s (mine j)) now.same ∙ subst (λ s. Tie p.core.types c.now.fun c.now.id j s (m.opened (mine j))) (last.closed j le) t
+        closed = let t = now.ties j in ap (λ s. s (mine j)) now.same
+            ∙ subst (λ s. Tie p.core.types c.now.fun c.now.id j s (m.opened (mine j))) (last.closed j le) t
 
         unknown_unset : (v : Val) → Fits p.core.types control.Unknown v → is_blank v ≡ true
         unknown_unset Unset fits = refl
-        unknown_unset (Number n) fits = absurd (cc)
+        unknown_unset (Number t n) fits = absurd (let z = fits.0 in cc)
         unknown_unset (Truth b) fits = absurd (cc)
         unknown_unset (Tuple vs) fits = absurd (let z = fits.1 in cc)
         unknown_unset (Product d vs) fits = absurd (let z = fits.1 in cc)
         unknown_unset (Array vs) fits = absurd (let z = fits.1 in cc)
 
         by : (o : Option TyId) → local_type c.now.fun j ≡ o → is_blank (m'.value (mine j)) ≡ true
-        by None e = unknown_unset (m'.value (mine j)) (subst (λ f. Fits p.core.types f (m'.value (mine j))) (ap (form_at p.core.types) (here.locals j ∙ e)) (now.holds.typed.value (mine j)))
-        by (Some t) e = leaves_blank p.core.types t (m'.value (mine j)) (subst (λ f. Fits p.core.types f (m'.value (mine j))) (ap (form_at p.core.types) (here.locals j ∙ e)) (now.holds.typed.value (mine j)))
+        by None e = unknown_unset (m'.value (mine j)) (subst (λ f. Fits p.core.types f (m'.value (mine j))) (ap (form_at p.core.types) (here.locals j ∙ e))
+            (now.holds.typed.value (mine j)))
+        by (Some t) e =
+            leaves_blank p.core.types t (m'.value (mine j)) (subst (λ f. Fits p.core.types f (m'.value (mine j)))
+            (ap (form_at p.core.types) (here.locals j ∙ e)) (now.holds.typed.value (mine j)))
             (λ q leaf. subst (λ z. Meets z (get q (m'.value (mine j)))) (sym (now.agrees j t q e leaf) ∙ last.left j le t e q leaf)
-            (now.holds.set (mine j) (closed_here p.core.types here.ty c.started now.covers here.promised m' (mine j) now.holds closed) t (here.locals j ∙ e) q leaf))
+            (now.holds.set (mine j) (closed_here p.core.types here.ty c.started now.maps here.promised m' (mine j) now.holds closed) t (here.locals j
+            ∙ e) q leaf))
 
-    pub leave_set : (from : Place) (u : TyId) → IsOf p.core c.now.fun u from → Leaves p.core c.now.fun c.now.fun.ramp u → TakeOk x g from → IsLast x (given x g from) → Sure S (does p c (Leave from)) m
-    leave_set from u of result ok last = takes p signs sh c m number g here g m (now_here p signs sh c m number g here) from u _ of ok (λ e v m' like fits is now.
-        subst (λ e. Sure S (Tell (op.Quit e.now.id (length c.now.fun.lent)) (close_all e (length c.now.fun.lent) (back p e e.callers v e.now.dest))) m') (sym like.is) (λ calm. (
+    pub leave_set : (from : Place) (u : TyId) → IsOf p.core c.now.fun u from → Leaves p.core c.now.fun (is_ramp c.now.fun) u → TakeOk x g from
+        → IsLast x (given x g from) → Sure S (does p c (Leave from)) m
+    leave_set from u of result ok last =
+        takes p signatures sh c m number g here g m (now_here p signatures sh c m number g here) from u _ of ok (λ e v m' like fits is now.
+        subst (λ e. Sure S (Perform (effect.Quit e.now.id (length (lent_types c.now.fun)))
+        (close_all e (length (lent_types c.now.fun)) (back p e e.callers v e.now.dest))) m') (sym like.is) (λ calm. (
           (λ j le. gone (given x g from) m' now last j le),
-          close_loop now.covers (given x g from) now.agrees last.lent (record c { turns = like.turns; opened = like.opened; input = like.input; output = like.output }) _ refl
-              (λ m'' cl. back_set now.covers (given x g from) now.agrees last.lent m'' cl like.turns like.opened like.input like.output v u fits is result c.callers c.now.dest here.callers here.ids)
-              (length c.now.fun.lent) m' (omega arith)
-              (record { covers = now.covers; holds = now.holds; sound = now.sound; others = now.others; slots = λ k n. ap (λ s. s k) now.same; left = λ j lt. (refl, ap (λ s. s (mine j)) now.same) }) calm.1,
+          close_loop now.maps (given x g from) now.agrees last.lent (record c {
+            turns = like.turns;
+            opened = like.opened;
+            input = like.input;
+            output =
+                like.output;
+          }) _ refl
+              (λ m'' cl. back_set now.maps (given x g from) now.agrees last.lent m'' cl like.turns like.opened like.input like.output v u fits is result
+              c.callers c.now.dest here.callers here.ids)
+              (length (lent_types c.now.fun)) m' (omega arith)
+              (record {
+                maps = now.maps;
+                holds = now.holds;
+                sound = now.sound;
+                others = now.others;
+                slots = λ k n. ap (λ s. s k) now.same;
+                left =
+                    λ j lt. (refl, ap (λ s. s (mine j)) now.same);
+              }) calm.1,
         ))) c (like_self c)
 
     -- SLIDING
 
-    pub slide_set : (l : ℕ) (v : Way) (d : Face) (y : Option Activation) → sleeper_of c.asleep (mine l) ≡ y → g.status l ≡ Bound v → Slides x g l d → Left d → Sure S (slide_of c (mine l) y) m
+    pub slide_set : (l : ℕ) (v : Way) (d : FlowState) (y : Option Activation) → sleeper_of c.asleep (mine l) ≡ y → g.status l ≡ Bound v → Slides x g l d
+        → Left d → Sure S (slide_of c (mine l) y) m
     slide_set l v d None found st t left calm = over NotOpened refl (λ e. absurd (cc))
     slide_set l v d (Some b) found st t left calm = (tt, slid calm.0)
       where
         other : b.id ≢ c.now.id
         other = here.ids.other (mine l) b found
 
-        ended : Ended (told.Held l) l g d
+        ended : Ended (transfer.InSubscript l) l g d
         ended = slides_end x g l d t.2
 
-        slid : (may : MayClose m (mine l)) → Fine S (record c { now = b; callers = c.now ∷ c.callers; asleep = wake c.asleep (mine l) }) (close_copy m (mine l) (m.opened (mine l)))
-        slid may = subst (λ y. Sound (close_copy m (mine l) y) → Fine S (record c { now = b; callers = c.now ∷ c.callers; asleep = wake c.asleep (mine l) }) (close_copy m (mine l) y)) (sym may.opened) (λ sound.
-            let ch : Changes p signs c.now.id c.now.id c.started c.started (record { ty = here.ty; covers = here.covers; promised = here.promised; slots = m.opened })
-            (record { ty = here.ty; covers = set_at here.covers (mine l) none_set; promised = here.promised; slots = set_at m.opened (mine l) None }) = record {
+        slid : (may : MayClose m (mine l))
+            → Fine S (record c { now = b; callers = c.now ∷ c.callers; asleep = wake c.asleep (mine l) }) (close_copy m (mine l) (m.opened (mine l)))
+        slid may = subst (λ y. Sound (close_copy m (mine l) y)
+            → Fine S (record c { now = b; callers = c.now ∷ c.callers; asleep = wake c.asleep (mine l) }) (close_copy m (mine l) y)) (sym may.opened)
+            (λ sound.
+            let ch : Changes p signatures c.now.id c.now.id c.started c.started (record {
+              ty = here.ty;
+              maps = here.maps;
+              promised = here.promised;
+              slots =
+                  m.opened;
+            })
+            (record { ty = here.ty; maps = set_at here.maps (mine l) none_set; promised = here.promised; slots = set_at m.opened (mine l) None }) = record {
               more = omega arith;
               ty = λ k b i j. refl;
-              covers = λ k b i j. set_other here.covers (mine l) none_set k (λ z. i (ap (λ k. k.act) z));
+              maps = λ k b i j. set_other here.maps (mine l) none_set k (λ z. i (ap (λ k. k.act) z));
               promised = λ k b i j. refl;
               slots = λ k b i j. set_other m.opened (mine l) None k (λ z. i (ap (λ k. k.act) z));
             } in
-            let f = frame_keep p signs c.now.id c.now.id c.started c.started _ _ ch b.id b.fun (Runs_on p signs b) other other (here.asleep (mine l) b found) in
-            let holds = returned p.core.types here.ty c.started here.covers (set_at here.covers (mine l) none_set) here.promised m (mine l) may.origin here.holds may.opened may
-            (λ e. foreign may (sym e)) (set_same here.covers (mine l) none_set) (λ k n. set_other here.covers (mine l) none_set k n)
+            let f = frame_keep p signatures c.now.id c.now.id c.started c.started _ _ ch b.id b.fun (Runs_on p signatures b) other other
+            (here.asleep (mine l) b found) in
+            let holds = returned p.core.types here.ty c.started here.maps (set_at here.maps (mine l) none_set) here.promised m (mine l) may.origin
+            here.holds may.opened may
+            (λ e. foreign may (sym e)) (set_same here.maps (mine l) none_set) (λ k n. set_other here.maps (mine l) none_set k n)
             (λ y q is leaf. here.bound l v st q ∙ sym (t.1 y (sym (here.locals l) ∙ is) q leaf) ∙ here.agrees l y q (sym (here.locals l) ∙ is) leaf) in
             stands (record {
               none = here.none;
               ty = here.ty;
-              covers = set_at here.covers (mine l) none_set;
+              maps = set_at here.maps (mine l) none_set;
               promised = here.promised;
               holds = holds;
               sound = sound;
@@ -256,47 +347,63 @@ module _ (p : Setting) (signs : ℕ → Sign) where
                   found = here.found;
                   below = here.below;
                   locals = here.locals;
-                  face = d;
+                  flow = d;
                   agrees = λ j y q e leaf. slid_agrees j y q e leaf;
-                  ties = λ j. subst (λ s. Tie p.core.types c.now.fun c.now.id j s (set_at m.opened (mine l) None (mine j))) (ended.status j) (slid_ties j (eqb_tells j l));
+                  ties = λ j. subst (λ s. Tie p.core.types c.now.fun c.now.id j s (set_at m.opened (mine l) None (mine j))) (ended.status j)
+                      (slid_ties j (eqb_tells j l));
                   params = λ j lt. let r = here.params j lt in ⊎_elim (λ y. absurd (let z : Param r.0 ≡ Bound v = sym r.1 ∙ ap g.status y.1 ∙ st in cc))
                       (λ y. (r.0, sym (ended.status j) ∙ ap (λ b. cond b Own (g.status j)) y.0 ∙ r.1)) (eqb_tells j l);
                   bound = λ j w e q. ⊎_elim (λ y. absurd (let z : Own ≡ Bound w = sym (ap (λ b. cond b Own (g.status j)) y.0) ∙ ended.status j ∙ e in cc))
                       (λ y. here.bound j w (sym (ap (λ b. cond b Own (g.status j)) y.0) ∙ ended.status j ∙ e) q) (eqb_tells j l);
                   promises = here.promises;
-                  goes = subst (λ dest. WaitsFor p signs c.now b.fun.ramp b.fun.result (signs f.number).yields dest number d) (sym (here.ids.nowhere (mine l) b found)) left;
+                  goes = subst (λ dest. WaitsFor p signatures c.now (is_ramp b.fun) b.fun.result (signatures f.number).yields dest number d)
+                      (sym (here.ids.nowhere (mine l) b found)) left;
                 },
-                callers_keep p signs c.now.id c.now.id c.started c.started _ _ ch c.now.fun.ramp c.now.fun.result (signs number).yields c.now.dest c.callers here.ids.not_now here.ids.not_now here.callers,
+                callers_keep p signatures c.now.id c.now.id c.started c.started _ _ ch (is_ramp c.now.fun) c.now.fun.result (signatures number).yields
+                    c.now.dest c.callers here.ids.not_now here.ids.not_now here.callers,
               );
               asleep = λ k b' e. let y = still_asleep k b' (ap (λ s. s k) (sym (wake_is c.asleep (mine l))) ∙ e) in
-                  frame_keep p signs c.now.id c.now.id c.started c.started _ _ ch b'.id b'.fun (Runs_on p signs b') (here.ids.other k b' y) (here.ids.other k b' y) (here.asleep k b' y);
-            })) (sound_apply (op.Close (mine l)) m may here.sound)
+                  frame_keep p signatures c.now.id c.now.id c.started c.started _ _ ch b'.id b'.fun (Runs_on p signatures b') (here.ids.other k b' y)
+                  (here.ids.other k b' y) (here.asleep k b' y);
+            })) (sound_apply (effect.Close (mine l)) m may here.sound)
           where
             foreign : (may : MayClose m (mine l)) → may.origin.base.act ≢ c.now.id
             foreign may = let t = here.ties l in (subst (λ s. Tie p.core.types c.now.fun c.now.id l s (m.opened (mine l))) st t may.origin may.opened).0
 
-            slid_agrees : (j : ℕ) (y : TyId) (q : Path) → local_type c.now.fun j ≡ Some y → IsLeaf p.core.types y q → d.standing j q ≡ set_at here.covers (mine l) none_set (mine j) q
-            slid_agrees j y q e leaf = sym (ap (λ c. c j q) (sym t.2.1.standing) ∙ t.2.2.standing j y q e leaf) ∙ ⊎_elim
-                (λ a. ap (λ b. cond b none_set (g.standing j) q) a.0 ∙ sym (ap (λ j. set_at here.covers (mine l) none_set (mine j) q) a.1 ∙ ap (λ c. c q) (set_same here.covers (mine l) none_set)))
-                (λ a. ap (λ b. cond b none_set (g.standing j) q) a.0 ∙ here.agrees j y q e leaf ∙ sym (ap (λ c. c q) (set_other here.covers (mine l) none_set (mine j) (λ z. a.1 (ap (λ k. k.local) z))))) (eqb_tells j l)
+            slid_agrees : (j : ℕ) (y : TyId) (q : Path) → local_type c.now.fun j ≡ Some y → IsLeaf p.core.types y q
+                → d.init j q ≡ set_at here.maps (mine l) none_set (mine j) q
+            slid_agrees j y q e leaf = sym (ap (λ c. c j q) (sym t.2.1.init) ∙ t.2.2.init j y q e leaf) ∙ ⊎_elim
+                (λ a. ap (λ b. cond b none_set (g.init j) q) a.0
+                ∙ sym (ap (λ j. set_at here.maps (mine l) none_set (mine j) q) a.1 ∙ ap (λ c. c q) (set_same here.maps (mine l) none_set)))
+                (λ a. ap (λ b. cond b none_set (g.init j) q) a.0 ∙ here.agrees j y q e leaf
+                ∙ sym (ap (λ c. c q) (set_other here.maps (mine l) none_set (mine j) (λ z. a.1 (ap (λ k. k.local) z))))) (eqb_tells j l)
 
-            slid_ties : (j : ℕ) → (((j == l) ≡ true) × (j ≡ l)) ⊎ (((j == l) ≡ false) × (j ≢ l)) → Tie p.core.types c.now.fun c.now.id j (set_local g.status l Own j) (set_at m.opened (mine l) None (mine j))
-            slid_ties j (inl y) = subst (λ s. Tie p.core.types c.now.fun c.now.id j s (set_at m.opened (mine l) None (mine j))) (sym (ap (λ b. cond b Own (g.status j)) y.0)) (ap (λ j. set_at m.opened (mine l) None (mine j)) y.1 ∙ set_same m.opened (mine l) None)
-            slid_ties j (inr y) = subst (λ s. Tie p.core.types c.now.fun c.now.id j s (set_at m.opened (mine l) None (mine j))) (sym (ap (λ b. cond b Own (g.status j)) y.0))
-                (subst (Tie p.core.types c.now.fun c.now.id j (g.status j)) (sym (set_other m.opened (mine l) None (mine j) (λ z. y.1 (ap (λ k. k.local) z)))) (here.ties j))
+            slid_ties : (j : ℕ) → (((j == l) ≡ true) × (j ≡ l)) ⊎ (((j == l) ≡ false) × (j ≢ l))
+                → Tie p.core.types c.now.fun c.now.id j (set_local g.status l Own j) (set_at m.opened (mine l) None (mine j))
+            slid_ties j (inl y) =
+                subst (λ s. Tie p.core.types c.now.fun c.now.id j s (set_at m.opened (mine l) None (mine j))) (sym (ap (λ b. cond b Own (g.status j)) y.0))
+                (ap (λ j. set_at m.opened (mine l) None (mine j)) y.1 ∙ set_same m.opened (mine l) None)
+            slid_ties j (inr y) =
+                subst (λ s. Tie p.core.types c.now.fun c.now.id j s (set_at m.opened (mine l) None (mine j))) (sym (ap (λ b. cond b Own (g.status j)) y.0))
+                (subst (Tie p.core.types c.now.fun c.now.id j (g.status j))
+                (sym (set_other m.opened (mine l) None (mine j) (λ z. y.1 (ap (λ k. k.local) z)))) (here.ties j))
 
             still_asleep : (k : Key) (b' : Activation) → set_at (sleeper_of c.asleep) (mine l) None k ≡ Some b' → sleeper_of c.asleep k ≡ Some b'
-            still_asleep k b' = at_key (sleeper_of c.asleep) (mine l) None k (λ y. y ≡ Some b' → sleeper_of c.asleep k ≡ Some b') (λ e y. absurd (cc)) (λ n y. y)
+            still_asleep k b' = at_key (sleeper_of c.asleep) (mine l) None k (λ y. y ≡ Some b'
+                → sleeper_of c.asleep k ≡ Some b') (λ e y. absurd (cc)) (λ n y. y)
 
     -- YIELDING
 
-    pub yield_set : (l : ℕ) (d : Face) → local_type c.now.fun l ≡ Some c.now.fun.result → IsOpen (g.status l) (signs number).yields → IsLocalSet x g l → Leads x (record g { yielded = true }) d → Left d
-        → (callers : List Activation) (dest : Dest) → CallersSet p signs c.started (record { ty = here.ty; covers = here.covers; promised = here.promised; slots = m.opened }) c.now.fun.ramp c.now.fun.result (signs number).yields dest callers
+    pub yield_set : (l : ℕ) (d : FlowState) → local_type c.now.fun l ≡ Some c.now.fun.result → IsOpen (g.status l) (signatures number).yields
+        → IsLocalSet x g l → FlowsInto x (record g { yielded = true }) d → Left d
+        → (callers : List Activation) (dest : Dest)
+        → CallersSet p signatures c.started (record { ty = here.ty; maps = here.maps; promised = here.promised; slots = m.opened }) (is_ramp c.now.fun)
+        c.now.fun.result (signatures number).yields dest callers
         → Ids c.now.id callers (sleeper_of c.asleep) → Sure S (yield_to c l callers dest) m
-    yield_set l d local open_so set leads left [] dest h ids calm = over Stuck refl (λ e. absurd (cc))
-    yield_set l d local open_so set leads left (a ∷ rest) (control.Result place) h ids calm = over Stuck refl (λ e. absurd (cc))
-    yield_set l d local open_so set leads left (a ∷ rest) Nowhere h ids calm = over Stuck refl (λ e. absurd (cc))
-    yield_set l d local open_so set leads left (a ∷ rest) (Opens to) h ids calm = (tt, yielded calm.0)
+    yield_set l d local open_so set flows left [] dest h ids calm = over Stuck refl (λ e. absurd (cc))
+    yield_set l d local open_so set flows left (a ∷ rest) (control.Result place) h ids calm = over Stuck refl (λ e. absurd (cc))
+    yield_set l d local open_so set flows left (a ∷ rest) Nowhere h ids calm = over Stuck refl (λ e. absurd (cc))
+    yield_set l d local open_so set flows left (a ∷ rest) (Opens to) h ids calm = (tt, yielded calm.0)
       where
         apart : a.id ≢ c.now.id
         apart e = ids.not_now.0 (sym e)
@@ -310,82 +417,136 @@ module _ (p : Setting) (signs : ℕ → Sign) where
         no_own : (s : Status) → s ≡ Own → ((v : Way) × (s ≡ Param v)) → ⊥
         no_own s e r = let z = r.1 in absurd (cc)
 
-        yielded : (may : MayHand m (at a.id to) (mine l)) → Fine S (record c { now = a; callers = rest; asleep = record { key = at a.id to; act = record (c.now) { dest = Nowhere } } ∷ c.asleep }) (copying.hand m (at a.id to) (mine l))
+        yielded : (may : MayHand m (at a.id to) (mine l))
+            → Fine S (record c { now = a; callers = rest; asleep = record { key = at a.id to; act = record (c.now) { dest = Nowhere } } ∷ c.asleep })
+            (copying.hand m (at a.id to) (mine l))
         yielded may =
             let fa = h.0 in
             let new : Origin = record { base = mine l; path = []; way = way_of (m.opened (mine l)) } in
-            let ch : Changes p signs a.id a.id c.started c.started (record { ty = here.ty; covers = here.covers; promised = here.promised; slots = m.opened })
-            (record { ty = here.ty; covers = set_at here.covers (at a.id to) all_set; promised = set_at here.promised (at a.id to) all_set; slots = set_at m.opened (at a.id to) (Some new) }) = record {
+            let ch : Changes p signatures a.id a.id c.started c.started (record { ty = here.ty; maps = here.maps; promised = here.promised; slots = m.opened })
+            (record {
+              ty = here.ty;
+              maps = set_at here.maps (at a.id to) all_set;
+              promised = set_at here.promised (at a.id to) all_set;
+              slots =
+                  set_at m.opened (at a.id to) (Some new);
+            }) = record {
               more = omega arith;
               ty = λ k b i j. refl;
-              covers = λ k b i j. set_other here.covers (at a.id to) all_set k (other_key k i);
+              maps = λ k b i j. set_other here.maps (at a.id to) all_set k (other_key k i);
               promised = λ k b i j. set_other here.promised (at a.id to) all_set k (other_key k i);
               slots = λ k b i j. set_other m.opened (at a.id to) (Some new) k (other_key k i);
             } in
             let unaway : NotAway m.opened (mine l) = λ j i e b n w. may.free j i e b in
-            let is_whole_there : is_whole (m.value (mine l)) ≡ true = whole_local p signs sh c m number g here l c.now.fun.result local set unaway in
+            let is_whole_there : is_whole (m.value (mine l)) ≡ true = whole_local p signatures sh c m number g here l c.now.fun.result local set unaway in
             let same_type : here.ty (at a.id to) ≡ here.ty (mine l) = fa.locals to ∙ fa.goes.0 ∙ sym (here.locals l ∙ local) in
-            let way_is : way_of (m.opened (mine l)) ≡ (signs number).yields = ap way_of may.opened ∙ way_tied p.core.types c.now.fun c.now.id l (g.status l) (signs number).yields (m.opened (mine l)) (here.ties l) open_so may.origin may.opened in
+            let way_is : way_of (m.opened (mine l)) ≡ (signatures number).yields = ap way_of may.opened
+            ∙ way_tied p.core.types c.now.fun c.now.id l (g.status l) (signatures number).yields (m.opened (mine l)) (here.ties l) open_so may.origin
+            may.opened in
             stands (record {
               none = here.none;
               ty = here.ty;
-              covers = set_at here.covers (at a.id to) all_set;
+              maps = set_at here.maps (at a.id to) all_set;
               promised = set_at here.promised (at a.id to) all_set;
-              holds = holds_hand p.core.types here.ty c.started here.covers (set_at here.covers (at a.id to) all_set) here.promised (set_at here.promised (at a.id to) all_set) m (at a.id to) (mine l) here.holds may
+              holds = holds_hand p.core.types here.ty c.started here.maps (set_at here.maps (at a.id to) all_set) here.promised
+                  (set_at here.promised (at a.id to) all_set) m (at a.id to) (mine l) here.holds may
                   apart fa.below here.below same_type
-                  (λ k n n'. set_other here.covers (at a.id to) all_set k n) (λ k n. set_other here.promised (at a.id to) all_set k n)
+                  (λ k n n'. set_other here.maps (at a.id to) all_set k n) (λ k n. set_other here.promised (at a.id to) all_set k n)
                   (λ t y st. (
-                    subst (λ c. Sets p.core.types t c (m.value (mine l))) (sym (set_same here.covers (at a.id to) all_set)) (sets_all t y is_whole_there),
-                    λ _. subst (λ c. Sets p.core.types t c (m.value (mine l))) (sym (set_other here.covers (at a.id to) all_set (mine l) (not_mine l))) st,
+                    subst (λ c. Sets p.core.types t c (m.value (mine l))) (sym (set_same here.maps (at a.id to) all_set)) (sets_all t y is_whole_there),
+                    λ _. subst (λ c. Sets p.core.types t c (m.value (mine l))) (sym (set_other here.maps (at a.id to) all_set (mine l) (not_mine l))) st,
                   ))
-                  (λ w t q y leaf. ap (λ c. c q) (set_other here.covers (at a.id to) all_set (mine l) (not_mine l)) ∙ sym (here.agrees l t q (sym (here.locals l) ∙ y) leaf) ∙ set t (sym (here.locals l) ∙ y) q leaf
+                  (λ w t q y leaf. ap (λ c. c q) (set_other here.maps (at a.id to) all_set (mine l) (not_mine l))
+                  ∙ sym (here.agrees l t q (sym (here.locals l) ∙ y) leaf) ∙ set t (sym (here.locals l) ∙ y) q leaf
                   ∙ sym (ap (λ c. c q) (set_same here.promised (at a.id to) all_set)));
-              sound = sound_apply (op.Hand (at a.id to) (mine l)) m may here.sound;
+              sound = sound_apply (effect.Hand (at a.id to) (mine l)) m may here.sound;
               now = record {
                 number = fa.number;
                 found = fa.found;
                 below = fa.below;
                 locals = fa.locals;
-                face = fa.goes.1.next;
-                agrees = λ j t q e leaf. let b = fa.goes.1.leads in sym (b.standing j t q e leaf) ∙ bound_agrees fa j t q e leaf (eqb_tells j to);
-                ties = λ j. let b = fa.goes.1.leads in subst (λ s. Tie p.core.types a.fun a.id j s (set_at m.opened (at a.id to) (Some new) (at a.id j))) (b.status j) (bound_ties way_is fa j (eqb_tells j to));
-                params = λ j lt. let b = fa.goes.1.leads in let r = fa.params j lt in ⊎_elim (λ y. absurd (no_own (fa.face.status j) (ap fa.face.status y.1 ∙ fa.goes.1.own) r))
-                    (λ y. (r.0, sym (b.status j) ∙ ap (λ i. cond i (Bound (signs number).yields) (fa.face.status j)) y.0 ∙ r.1)) (eqb_tells j to);
-                bound = λ j w e q. let b = fa.goes.1.leads in ⊎_elim (λ y. ap (λ j. set_at here.promised (at a.id to) all_set (at a.id j) q) y.1 ∙ ap (λ c. c q) (set_same here.promised (at a.id to) all_set))
-                    (λ y. ap (λ c. c q) (set_other here.promised (at a.id to) all_set (at a.id j) (λ z. y.1 (ap (λ k. k.local) z))) ∙ fa.bound j w (sym (ap (λ i. cond i (Bound (signs number).yields) (fa.face.status j)) y.0) ∙ b.status j ∙ e) q) (eqb_tells j to);
-                promises = λ j lt q. ap (λ c. c q) (set_other here.promised (at a.id to) all_set (at a.id j) (λ z. absurd (no_own (fa.face.status j) (ap fa.face.status (ap (λ k. k.local) z) ∙ fa.goes.1.own) (fa.params j lt)))) ∙ fa.promises j lt q;
+                flow = fa.goes.1.next;
+                agrees = λ j t q e leaf. let b = fa.goes.1.flows in sym (b.init j t q e leaf) ∙ bound_agrees fa j t q e leaf (eqb_tells j to);
+                ties = λ j. let b = fa.goes.1.flows in
+                    subst (λ s. Tie p.core.types a.fun a.id j s (set_at m.opened (at a.id to) (Some new) (at a.id j))) (b.status j)
+                    (bound_ties way_is fa j (eqb_tells j to));
+                params = λ j lt. let b = fa.goes.1.flows in let r = fa.params j lt in
+                    ⊎_elim (λ y. absurd (no_own (fa.flow.status j) (ap fa.flow.status y.1 ∙ fa.goes.1.own) r))
+                    (λ y. (r.0, sym (b.status j) ∙ ap (λ i. cond i (Bound (signatures number).yields) (fa.flow.status j)) y.0 ∙ r.1)) (eqb_tells j to);
+                bound = λ j w e q. let b = fa.goes.1.flows in
+                    ⊎_elim (λ y. ap (λ j. set_at here.promised (at a.id to) all_set (at a.id j) q) y.1
+                    ∙ ap (λ c. c q) (set_same here.promised (at a.id to) all_set))
+                    (λ y. ap (λ c. c q) (set_other here.promised (at a.id to) all_set (at a.id j) (λ z. y.1 (ap (λ k. k.local) z)))
+                    ∙ fa.bound j w (sym (ap (λ i. cond i (Bound (signatures number).yields) (fa.flow.status j)) y.0) ∙ b.status j ∙ e) q)
+                    (eqb_tells j to);
+                promises = λ j lt q. ap (λ c. c q) (set_other here.promised (at a.id to) all_set (at a.id j)
+                    (λ z. absurd (no_own (fa.flow.status j) (ap fa.flow.status (ap (λ k. k.local) z) ∙ fa.goes.1.own) (fa.params j lt))))
+                    ∙ fa.promises j lt q;
                 goes = fa.goes.1.work;
               };
-              callers = callers_keep p signs a.id a.id c.started c.started _ _ ch a.fun.ramp a.fun.result (signs fa.number).yields a.dest rest ids.distinct.0 ids.distinct.0 h.1;
+              callers = callers_keep p signatures a.id a.id c.started c.started _ _ ch (is_ramp a.fun) a.fun.result (signatures fa.number).yields a.dest
+                  rest ids.distinct.0 ids.distinct.0 h.1;
               asleep = λ k b. at_key (sleeper_of c.asleep) (at a.id to) (Some (record (c.now) { dest = Nowhere })) k (λ y. y ≡ Some b
-                  → Frame p signs c.started (record { ty = here.ty; covers = set_at here.covers (at a.id to) all_set; promised = set_at here.promised (at a.id to) all_set; slots = set_at m.opened (at a.id to) (Some new) }) b.id b.fun (Runs_on p signs b))
-                  (λ _ y. subst (λ b. Frame p signs c.started (record { ty = here.ty; covers = set_at here.covers (at a.id to) all_set; promised = set_at here.promised (at a.id to) all_set; slots = set_at m.opened (at a.id to) (Some new) }) b.id b.fun (Runs_on p signs b))
+                  → Frame p signatures c.started (record {
+                    ty = here.ty;
+                    maps = set_at here.maps (at a.id to) all_set;
+                    promised =
+                        set_at here.promised (at a.id to) all_set;
+                    slots = set_at m.opened (at a.id to) (Some new);
+                  }) b.id b.fun (Runs_on p signatures b))
+                  (λ _ y. subst
+                  (λ b. Frame p signatures c.started (record {
+                    ty = here.ty;
+                    maps = set_at here.maps (at a.id to) all_set;
+                    promised =
+                        set_at here.promised (at a.id to) all_set;
+                    slots = set_at m.opened (at a.id to) (Some new);
+                  }) b.id b.fun (Runs_on p signatures b))
                   (act_is (record (c.now) { dest = Nowhere }) b y)
-                  (frame_keep p signs a.id a.id c.started c.started _ _ ch c.now.id c.now.fun (Runs_on p signs (record (c.now) { dest = Nowhere })) (λ e. apart (sym e)) (λ e. apart (sym e)) (own_less d less left)))
-                  (λ _ y. frame_keep p signs a.id a.id c.started c.started _ _ ch b.id b.fun (Runs_on p signs b) (ids.apart k b y).0 (ids.apart k b y).0 (here.asleep k b y));
+                  (frame_keep p signatures a.id a.id c.started c.started _ _ ch c.now.id c.now.fun
+                  (Runs_on p signatures (record (c.now) { dest = Nowhere })) (λ e. apart (sym e)) (λ e. apart (sym e)) (own_less d less left)))
+                  (λ _ y. frame_keep p signatures a.id a.id c.started c.started _ _ ch b.id b.fun (Runs_on p signatures b) (ids.apart k b y).0
+                  (ids.apart k b y).0 (here.asleep k b y));
             })
           where
-            less : Tells_less (scene p signs number c.now.fun) g d
-            less = record { status = leads.status; standing = λ j t q e leaf. leads.standing j t q e leaf }
+            less : SameInit (context p signatures number c.now.fun) g d
+            less = record { status = flows.status; init = λ j t q e leaf. flows.init j t q e leaf }
 
             sets_all : (t : TyId) → here.ty (mine l) ≡ Some t → is_whole (m.value (mine l)) ≡ true → Sets p.core.types t all_set (m.value (mine l))
-            sets_all t y w = sets_whole p.core.types t (m.value (mine l)) (subst (λ f. Fits p.core.types f (m.value (mine l))) (ap (form_at p.core.types) y) (here.holds.typed.value (mine l))) w
+            sets_all t y w =
+                sets_whole p.core.types t (m.value (mine l))
+                (subst (λ f. Fits p.core.types f (m.value (mine l))) (ap (form_at p.core.types) y) (here.holds.typed.value (mine l))) w
 
-            bound_agrees : (fa : Frame p signs c.started (record { ty = here.ty; covers = here.covers; promised = here.promised; slots = m.opened }) a.id a.fun (WaitsFor p signs a c.now.fun.ramp c.now.fun.result (signs number).yields (Opens to)))
-                → (j : ℕ) (t : TyId) (q : Path) → local_type a.fun j ≡ Some t → IsLeaf p.core.types t q → (((j == to) ≡ true) × (j ≡ to)) ⊎ (((j == to) ≡ false) × (j ≢ to))
-                → set_local fa.face.standing to all_set j q ≡ set_at here.covers (at a.id to) all_set (at a.id j) q
-            bound_agrees fa j t q e leaf (inl y) = ap (λ b. cond b all_set (fa.face.standing j) q) y.0 ∙ sym (ap (λ j. set_at here.covers (at a.id to) all_set (at a.id j) q) y.1 ∙ ap (λ c. c q) (set_same here.covers (at a.id to) all_set))
-            bound_agrees fa j t q e leaf (inr y) = ap (λ b. cond b all_set (fa.face.standing j) q) y.0 ∙ fa.agrees j t q e leaf ∙ sym (ap (λ c. c q) (set_other here.covers (at a.id to) all_set (at a.id j) (λ z. y.1 (ap (λ k. k.local) z))))
+            bound_agrees : (fa : Frame p signatures c.started (record { ty = here.ty; maps = here.maps; promised = here.promised; slots = m.opened }) a.id
+                a.fun (WaitsFor p signatures a (is_ramp c.now.fun) c.now.fun.result (signatures number).yields (Opens to)))
+                → (j : ℕ) (t : TyId) (q : Path) → local_type a.fun j ≡ Some t → IsLeaf p.core.types t q → (((j == to) ≡ true) × (j ≡ to))
+                ⊎ (((j == to) ≡ false) × (j ≢ to))
+                → set_local fa.flow.init to all_set j q ≡ set_at here.maps (at a.id to) all_set (at a.id j) q
+            bound_agrees fa j t q e leaf (inl y) = ap (λ b. cond b all_set (fa.flow.init j) q) y.0
+                ∙ sym (ap (λ j. set_at here.maps (at a.id to) all_set (at a.id j) q) y.1 ∙ ap (λ c. c q) (set_same here.maps (at a.id to) all_set))
+            bound_agrees fa j t q e leaf (inr y) = ap (λ b. cond b all_set (fa.flow.init j) q) y.0 ∙ fa.agrees j t q e leaf
+                ∙ sym (ap (λ c. c q) (set_other here.maps (at a.id to) all_set (at a.id j) (λ z. y.1 (ap (λ k. k.local) z))))
 
-            bound_ties : way_of (m.opened (mine l)) ≡ (signs number).yields
-                → (fa : Frame p signs c.started (record { ty = here.ty; covers = here.covers; promised = here.promised; slots = m.opened }) a.id a.fun (WaitsFor p signs a c.now.fun.ramp c.now.fun.result (signs number).yields (Opens to)))
+            bound_ties : way_of (m.opened (mine l)) ≡ (signatures number).yields
+                → (fa : Frame p signatures c.started (record { ty = here.ty; maps = here.maps; promised = here.promised; slots = m.opened }) a.id a.fun
+                (WaitsFor p signatures a (is_ramp c.now.fun) c.now.fun.result (signatures number).yields (Opens to)))
                 → (j : ℕ) → (((j == to) ≡ true) × (j ≡ to)) ⊎ (((j == to) ≡ false) × (j ≢ to))
-                → Tie p.core.types a.fun a.id j (set_local fa.face.status to (Bound (signs number).yields) j) (set_at m.opened (at a.id to) (Some (record { base = mine l; path = []; way = way_of (m.opened (mine l)) })) (at a.id j))
-            bound_ties way_is fa j (inl y) = subst (λ s. Tie p.core.types a.fun a.id j s (set_at m.opened (at a.id to) (Some (record { base = mine l; path = []; way = way_of (m.opened (mine l)) })) (at a.id j)))
-                (sym (ap (λ b. cond b (Bound (signs number).yields) (fa.face.status j)) y.0))
-                (λ o e. let z = some_is (record { base = mine l; path = []; way = way_of (m.opened (mine l)) }) o (sym (set_same m.opened (at a.id to) (Some (record { base = mine l; path = []; way = way_of (m.opened (mine l)) })))
-                ∙ ap (λ j. set_at m.opened (at a.id to) (Some (record { base = mine l; path = []; way = way_of (m.opened (mine l)) })) (at a.id j)) (sym y.1) ∙ e) in
+                → Tie p.core.types a.fun a.id j (set_local fa.flow.status to (Bound (signatures number).yields) j)
+                (set_at m.opened (at a.id to) (Some (record { base = mine l; path = []; way = way_of (m.opened (mine l)) })) (at a.id j))
+            bound_ties way_is fa j (inl y) =
+                subst (λ s. Tie p.core.types a.fun a.id j s
+                (set_at m.opened (at a.id to) (Some (record { base = mine l; path = []; way = way_of (m.opened (mine l)) })) (at a.id j)))
+                (sym (ap (λ b. cond b (Bound (signatures number).yields) (fa.flow.status j)) y.0))
+                (λ o e. let z =
+                some_is (record { base = mine l; path = []; way = way_of (m.opened (mine l)) }) o
+                (sym (set_same m.opened (at a.id to) (Some (record { base = mine l; path = []; way = way_of (m.opened (mine l)) })))
+                ∙ ap (λ j. set_at m.opened (at a.id to) (Some (record { base = mine l; path = []; way = way_of (m.opened (mine l)) })) (at a.id j))
+                (sym y.1) ∙ e) in
                 ((λ q. apart (sym (ap (λ o. o.base.act) z ∙ q))), ap (λ o. o.way) (sym z) ∙ way_is))
-            bound_ties way_is fa j (inr y) = subst (λ s. Tie p.core.types a.fun a.id j s (set_at m.opened (at a.id to) (Some (record { base = mine l; path = []; way = way_of (m.opened (mine l)) })) (at a.id j)))
-                (sym (ap (λ b. cond b (Bound (signs number).yields) (fa.face.status j)) y.0))
-                (subst (Tie p.core.types a.fun a.id j (fa.face.status j)) (sym (set_other m.opened (at a.id to) (Some (record { base = mine l; path = []; way = way_of (m.opened (mine l)) })) (at a.id j) (λ z. y.1 (ap (λ k. k.local) z)))) (fa.ties j))
+            bound_ties way_is fa j (inr y) =
+                subst (λ s. Tie p.core.types a.fun a.id j s
+                (set_at m.opened (at a.id to) (Some (record { base = mine l; path = []; way = way_of (m.opened (mine l)) })) (at a.id j)))
+                (sym (ap (λ b. cond b (Bound (signatures number).yields) (fa.flow.status j)) y.0))
+                (subst (Tie p.core.types a.fun a.id j (fa.flow.status j))
+                (sym (set_other m.opened (at a.id to) (Some (record { base = mine l; path = []; way = way_of (m.opened (mine l)) })) (at a.id j)
+                (λ z. y.1 (ap (λ k. k.local) z)))) (fa.ties j))

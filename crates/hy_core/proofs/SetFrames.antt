@@ -1,82 +1,84 @@
--- What is told to be set in each activation of a run of a checked core is set in the memory that copies.
+-- What is known to be set in each activation of a run of a checked core is set in the memory that copies.
 use Rattle.std.proofs.Common.{◌≡◌, ◌≢◌, ℕ, ◌<◌, ◌≤◌, Bool, false, List, [], ◌∷◌, length, Option, Some, None, slice_get, refl, sym, ap, ◌∙◌, subst, arith}
 use Rattle.hy_types.specs.declared.kinds.TyId.{TyId}
-use Rattle.hy_core.specs.Plain.{Place, Stmts, Fun}
+use Rattle.hy_core.specs.Plain.{Place, Stmts, Fun, is_ramp, lent_types}
 use Rattle.hy_core.specs.Values.{Path}
 use Rattle.hy_core.specs.Memory.{Key, Way, Copies}
-use Rattle.hy_core.specs.Control.{Flags, form, local_type, Work, Idle, Rest, Loop, Test, Drops, Dest, Opens, Nowhere, Activation, Nap, Halt, Control, GivesUp, Setting, with_work, sleeper_of, wake}
+use Rattle.hy_core.specs.Control.{Flags, form, local_type, Work, Idle, Rest, Loop, Test, Drops, Dest, Opens, Nowhere, Activation, Nap, Halt, Control}
+use Rattle.hy_core.specs.Control.{GivesUp, Setting, with_work, sleeper_of, wake}
 use Rattle.hy_core.specs.Control as control
 use Rattle.hy_core.specs.Statements.{broken, continued}
 use Rattle.hy_core.specs.Typing.{IsLeaf}
 use Rattle.hy_core.specs.Shaped.{IsOf}
-use Rattle.hy_core.specs.Told.{all_set, Own, Param, Bound, Face, Sign, Scene, with_status, StoreOk, stored, Leads}
+use Rattle.hy_core.specs.Flow.{all_set, Own, Param, Bound, FlowState, Signature, Context, with_status, StoreOk, stored, FlowsInto}
 use Rattle.hy_core.proofs.OpenPlaces.{Sound}
-use Rattle.hy_core.proofs.CalmTalks.{Slots, at}
-use Rattle.hy_core.proofs.CalmFrames.{Sleeping, NotIn, LoopTold, RestTold, scene}
-use Rattle.hy_core.proofs.SetMemories.{Covers, Holds}
-use Rattle.hy_core.proofs.SetTalks.{Tie, AllBound}
+use Rattle.hy_core.proofs.CalmWalks.{Slots, at}
+use Rattle.hy_core.proofs.CalmFrames.{Sleeping, NotIn, LoopFlows, RestFlows, context}
+use Rattle.hy_core.proofs.SetMemories.{InitMaps, Holds}
+use Rattle.hy_core.proofs.SetWalks.{Tie, AllBound}
 
--- FACES that tell the same of each local
+-- FLOW STATES that tell the same of each local
 
-module _ (x : Scene) where
-  pub record Tells_less (g d : Face) : Type 0 where
+module _ (x : Context) where
+  pub record SameInit (g d : FlowState) : Type 0 where
     pub status : (l : ℕ) → g.status l ≡ d.status l
-    pub standing : (l : ℕ) (t : TyId) (q : Path) → local_type x.fun l ≡ Some t → IsLeaf x.core.types t q → g.standing l q ≡ d.standing l q
+    pub init : (l : ℕ) (t : TyId) (q : Path) → local_type x.fun l ≡ Some t → IsLeaf x.core.types t q → g.init l q ≡ d.init l q
 
-  pub less_self : (g : Face) → Tells_less g g
-  less_self g = record { status = λ l. refl; standing = λ l t q e i. refl }
+  pub less_self : (g : FlowState) → SameInit g g
+  less_self g = record { status = λ l. refl; init = λ l t q e i. refl }
 
-  pub less_on : (g h d : Face) → Tells_less g h → Tells_less h d → Tells_less g d
-  less_on g h d a b = record { status = λ l. a.status l ∙ b.status l; standing = λ l t q e i. a.standing l t q e i ∙ b.standing l t q e i }
+  pub less_on : (g h d : FlowState) → SameInit g h → SameInit h d → SameInit g d
+  less_on g h d a b = record { status = λ l. a.status l ∙ b.status l; init = λ l t q e i. a.init l t q e i ∙ b.init l t q e i }
 
-  pub leads_less : (g d : Face) → Leads x g d → Tells_less g d
-  leads_less g d a = record { status = a.status; standing = λ l t q e i. a.standing l t q e i }
+  pub flows_less : (g d : FlowState) → FlowsInto x g d → SameInit g d
+  flows_less g d a = record { status = a.status; init = λ l t q e i. a.init l t q e i }
 
-  -- WORK, where g is told
+  -- WORK, where g is known
 
-  pub record HeadSet (g : Face) (head : Stmts) (on : ℕ) (body : Stmts) (N : Face → Type 0) : Type 0 where
-    pub first : Face
-    pub leads : Tells_less g first
-    pub loop : LoopTold x first head on body N
+  pub record HeadSet (g : FlowState) (head : Stmts) (on : ℕ) (body : Stmts) (N : FlowState → Type 0) : Type 0 where
+    pub first : FlowState
+    pub flows : SameInit g first
+    pub loop : LoopFlows x first head on body N
 
-  pub record TestSet (g : Face) (head : Stmts) (on : ℕ) (body : Stmts) (N : Face → Type 0) : Type 0 where
-    pub first : Face
-    pub loop : LoopTold x first head on body N
-    pub leads : Tells_less g loop.test
+  pub record TestSet (g : FlowState) (head : Stmts) (on : ℕ) (body : Stmts) (N : FlowState → Type 0) : Type 0 where
+    pub first : FlowState
+    pub loop : LoopFlows x first head on body N
+    pub flows : SameInit g loop.test
 
   abbrev mutual
-    pub WorkSet : Work → Face → Type 0
+    pub WorkSet : Work → FlowState → Type 0
     WorkSet Idle g = Unit {0}
-    WorkSet (Rest ss w) g = RestTold x g ss (BreakSet w) (AgainSet w) (WorkSet w)
+    WorkSet (Rest ss w) g = RestFlows x g ss (BreakSet w) (AgainSet w) (WorkSet w)
     WorkSet (Loop head on body w) g = HeadSet g head on body (WorkSet w)
     WorkSet (Test head on body w) g = TestSet g head on body (WorkSet w)
     WorkSet (Drops ts w) g = ⊥
 
-    pub BreakSet : Work → Face → Type 0
+    pub BreakSet : Work → FlowState → Type 0
     BreakSet Idle g = Unit {0}
     BreakSet (Rest ss w) g = BreakSet w g
     BreakSet (Loop head on body w) g = WorkSet w g
     BreakSet (Test head on body w) g = Unit {0}
     BreakSet (Drops ts w) g = Unit {0}
 
-    pub AgainSet : Work → Face → Type 0
+    pub AgainSet : Work → FlowState → Type 0
     AgainSet Idle g = Unit {0}
     AgainSet (Rest ss w) g = AgainSet w g
-    AgainSet (Loop head on body w) g = LoopTold x g head on body (WorkSet w)
+    AgainSet (Loop head on body w) g = LoopFlows x g head on body (WorkSet w)
     AgainSet (Test head on body w) g = Unit {0}
     AgainSet (Drops ts w) g = Unit {0}
 
-  pub break_set : (w v : Work) (g : Face) → broken w ≡ Some v → BreakSet w g → WorkSet v g
+  pub break_set : (w v : Work) (g : FlowState) → broken w ≡ Some v → BreakSet w g → WorkSet v g
   break_set Idle v g e h = absurd (cc)
   break_set (Rest ss w) v g e h = break_set w v g e h
   break_set (Loop head on body w) v g e h = let z : w ≡ v = cc in subst (λ w. WorkSet w g) z h
   break_set (Test head on body w) v g e h = absurd (cc)
   break_set (Drops ts w) v g e h = absurd (cc)
 
-  pub again_set : (w v : Work) (g : Face) → continued w ≡ Some v → AgainSet w g → WorkSet v g
+  pub again_set : (w v : Work) (g : FlowState) → continued w ≡ Some v → AgainSet w g → WorkSet v g
   again_set Idle v g e h = absurd (cc)
   again_set (Rest ss w) v g e h = again_set w v g e h
-  again_set (Loop head on body w) v g e h = let z : Loop head on body w ≡ v = cc in subst (λ w. WorkSet w g) z (record { first = g; leads = less_self g; loop = h })
+  again_set (Loop head on body w) v g e h = let z : Loop head on body w ≡ v = cc in
+      subst (λ w. WorkSet w g) z (record { first = g; flows = less_self g; loop = h })
   again_set (Test head on body w) v g e h = absurd (cc)
   again_set (Drops ts w) v g e h = absurd (cc)
 
@@ -85,49 +87,50 @@ module _ (x : Scene) where
 -- the types of locals, what is set in them, and what will be when they close, and what each stands for
 pub record World : Type 0 where
   pub ty : Key → Option TyId
-  pub covers : Covers
-  pub promised : Covers
+  pub maps : InitMaps
+  pub promised : InitMaps
   pub slots : Slots
 
-module _ (p : Setting) (signs : ℕ → Sign) where
-  pub record Frame (n : ℕ) (W : World) (id : ℕ) (fun : Fun) (Goes : ℕ → Face → Type 0) : Type 0 where
+module _ (p : Setting) (signatures : ℕ → Signature) where
+  pub record Frame (n : ℕ) (W : World) (id : ℕ) (fun : Fun) (Goes : ℕ → FlowState → Type 0) : Type 0 where
     pub number : ℕ
     pub found : slice_get p.core.funs number ≡ Some fun
     pub below : id < n
     pub locals : (l : ℕ) → W.ty (at id l) ≡ local_type fun l
-    pub face : Face
-    pub agrees : (l : ℕ) (t : TyId) (q : Path) → local_type fun l ≡ Some t → IsLeaf p.core.types t q → face.standing l q ≡ W.covers (at id l) q
-    pub ties : (l : ℕ) → Tie p.core.types fun id l (face.status l) (W.slots (at id l))
-    pub params : (j : ℕ) → j < length fun.lent → (v : Way) × (face.status j ≡ Param v)
-    pub bound : AllBound face.status (λ l. W.promised (at id l))
-    pub promises : (j : ℕ) → j < length fun.lent → (q : Path) → W.promised (at id j) q ≡ ((signs number).lent j).behind q
-    pub goes : Goes number face
+    pub flow : FlowState
+    pub agrees : (l : ℕ) (t : TyId) (q : Path) → local_type fun l ≡ Some t → IsLeaf p.core.types t q → flow.init l q ≡ W.maps (at id l) q
+    pub ties : (l : ℕ) → Tie p.core.types fun id l (flow.status l) (W.slots (at id l))
+    pub params : (j : ℕ) → j < length (lent_types fun) → (v : Way) × (flow.status j ≡ Param v)
+    pub bound : AllBound flow.status (λ l. W.promised (at id l))
+    pub promises : (j : ℕ) → j < length (lent_types fun) → (q : Path) → W.promised (at id j) q ≡ ((signatures number).lent j).after q
+    pub goes : Goes number flow
 
-  -- what is told of a waiting body once it goes on
-  pub record Writes_back (x : Scene) (g : Face) (w : Work) (place : Place) : Type 0 where
+  -- what is known of a waiting body once it goes on
+  pub record Writes_back (x : Context) (g : FlowState) (w : Work) (place : Place) : Type 0 where
     pub store : StoreOk x g place
-    pub next : Face
-    pub leads : Leads x (stored x g place) next
+    pub next : FlowState
+    pub flows : FlowsInto x (stored x g place) next
     pub work : WorkSet x w next
 
-  pub record Bind_back (x : Scene) (g : Face) (w : Work) (v : Way) (l : ℕ) : Type 0 where
+  pub record Bind_back (x : Context) (g : FlowState) (w : Work) (v : Way) (l : ℕ) : Type 0 where
     pub own : g.status l ≡ Own
-    pub next : Face
-    pub leads : Leads x (with_status g l (Bound v) all_set) next
+    pub next : FlowState
+    pub flows : FlowsInto x (with_status g l (Bound v) all_set) next
     pub work : WorkSet x w next
 
   -- a body waits for one that gives a value of that type, or yields such a local in that way
-  abbrev pub WaitsFor : (a : Activation) → (ramp : Bool) → (result : TyId) → Way → Dest → ℕ → Face → Type 0
-  WaitsFor a ramp t v (control.Result place) k g = (ramp ≡ false) × IsOf p.core a.fun t place × Writes_back (scene p signs k a.fun) g a.work place
-  WaitsFor a ramp t v (Opens l) k g = (local_type a.fun l ≡ Some t) × Bind_back (scene p signs k a.fun) g a.work v l
-  WaitsFor a ramp t v Nowhere k g = WorkSet (scene p signs k a.fun) a.work g
+  abbrev pub WaitsFor : (a : Activation) → (ramp : Bool) → (result : TyId) → Way → Dest → ℕ → FlowState → Type 0
+  WaitsFor a ramp t v (control.Result place) k g = (ramp ≡ false) × IsOf p.core a.fun t place × Writes_back (context p signatures k a.fun) g a.work place
+  WaitsFor a ramp t v (Opens l) k g = (local_type a.fun l ≡ Some t) × Bind_back (context p signatures k a.fun) g a.work v l
+  WaitsFor a ramp t v Nowhere k g = WorkSet (context p signatures k a.fun) a.work g
 
-  abbrev pub Runs_on : Activation → ℕ → Face → Type 0
-  Runs_on a k g = WorkSet (scene p signs k a.fun) a.work g
+  abbrev pub Runs_on : Activation → ℕ → FlowState → Type 0
+  Runs_on a k g = WorkSet (context p signatures k a.fun) a.work g
 
   abbrev pub CallersSet : ℕ → World → (ramp : Bool) → (result : TyId) → Way → Dest → List Activation → Type 0
   CallersSet n W ramp t v dest [] = Unit {0}
-  CallersSet n W ramp t v dest (a ∷ rest) = (x : Frame n W a.id a.fun (WaitsFor a ramp t v dest)) × CallersSet n W a.fun.ramp a.fun.result (signs x.number).yields a.dest rest
+  CallersSet n W ramp t v dest (a ∷ rest) = (x : Frame n W a.id a.fun (WaitsFor a ramp t v dest))
+      × CallersSet n W (is_ramp a.fun) a.fun.result (signatures x.number).yields a.dest rest
 
   abbrev pub AsleepSet : ℕ → World → Sleeping → Type 0
   AsleepSet n W asl = (k : Key) (b : Activation) → asl k ≡ Some b → Frame n W b.id b.fun (Runs_on b)
@@ -135,40 +138,44 @@ module _ (p : Setting) (signs : ℕ → Sign) where
   pub record Stands (c : Control) (m : Copies) : Type 0 where
     pub none : c.halt ≡ None
     pub ty : Key → Option TyId
-    pub covers : Covers
-    pub promised : Covers
-    pub holds : Holds p.core.types ty c.started covers promised m
+    pub maps : InitMaps
+    pub promised : InitMaps
+    pub holds : Holds p.core.types ty c.started maps promised m
     pub sound : Sound m
-    pub now : Frame c.started (record { ty = ty; covers = covers; promised = promised; slots = m.opened }) c.now.id c.now.fun (Runs_on c.now)
-    pub callers : CallersSet c.started (record { ty = ty; covers = covers; promised = promised; slots = m.opened }) c.now.fun.ramp c.now.fun.result (signs now.number).yields c.now.dest c.callers
-    pub asleep : AsleepSet c.started (record { ty = ty; covers = covers; promised = promised; slots = m.opened }) (sleeper_of c.asleep)
+    pub now : Frame c.started (record { ty = ty; maps = maps; promised = promised; slots = m.opened }) c.now.id c.now.fun (Runs_on c.now)
+    pub callers : CallersSet c.started (record { ty = ty; maps = maps; promised = promised; slots = m.opened }) (is_ramp c.now.fun) c.now.fun.result
+        (signatures now.number).yields c.now.dest c.callers
+    pub asleep : AsleepSet c.started (record { ty = ty; maps = maps; promised = promised; slots = m.opened }) (sleeper_of c.asleep)
 
   -- KEEPING: a change at the locals of i and j leaves the frames of others
 
   pub record Changes (i j n n' : ℕ) (W W' : World) : Type 0 where
     pub more : n ≤ n'
     pub ty : (k : Key) → k.act < n → k.act ≢ i → k.act ≢ j → W'.ty k ≡ W.ty k
-    pub covers : (k : Key) → k.act < n → k.act ≢ i → k.act ≢ j → W'.covers k ≡ W.covers k
+    pub maps : (k : Key) → k.act < n → k.act ≢ i → k.act ≢ j → W'.maps k ≡ W.maps k
     pub promised : (k : Key) → k.act < n → k.act ≢ i → k.act ≢ j → W'.promised k ≡ W.promised k
     pub slots : (k : Key) → k.act < n → k.act ≢ i → k.act ≢ j → W'.slots k ≡ W.slots k
 
   module _ (i j n n' : ℕ) (W W' : World) (ch : Changes i j n n' W W') where
-    abbrev pub frame_keep : (id : ℕ) (fun : Fun) (Goes : ℕ → Face → Type 0) → id ≢ i → id ≢ j → Frame n W id fun Goes → Frame n' W' id fun Goes
+    abbrev pub frame_keep : (id : ℕ) (fun : Fun) (Goes : ℕ → FlowState → Type 0) → id ≢ i → id ≢ j → Frame n W id fun Goes → Frame n' W' id fun Goes
     frame_keep id fun Goes ni nj f = record {
       number = f.number;
       found = f.found;
       below = let a = f.below in let b = ch.more in omega arith;
       locals = λ l. ch.ty (at id l) f.below ni nj ∙ f.locals l;
-      face = f.face;
-      agrees = λ l t q e leaf. f.agrees l t q e leaf ∙ ap (λ c. c q) (sym (ch.covers (at id l) f.below ni nj));
-      ties = λ l. subst (Tie p.core.types fun id l (f.face.status l)) (sym (ch.slots (at id l) f.below ni nj)) (f.ties l);
+      flow = f.flow;
+      agrees = λ l t q e leaf. f.agrees l t q e leaf ∙ ap (λ c. c q) (sym (ch.maps (at id l) f.below ni nj));
+      ties = λ l. subst (Tie p.core.types fun id l (f.flow.status l)) (sym (ch.slots (at id l) f.below ni nj)) (f.ties l);
       params = f.params;
       bound = λ l w e q. ap (λ c. c q) (ch.promised (at id l) f.below ni nj) ∙ f.bound l w e q;
       promises = λ k lt q. ap (λ c. c q) (ch.promised (at id k) f.below ni nj) ∙ f.promises k lt q;
       goes = f.goes;
     }
 
-    pub callers_keep : (ramp : Bool) (t : TyId) (v : Way) (dest : Dest) (rest : List Activation) → NotIn i rest → NotIn j rest → CallersSet n W ramp t v dest rest → CallersSet n' W' ramp t v dest rest
+    pub callers_keep : (ramp : Bool) (t : TyId) (v : Way) (dest : Dest) (rest : List Activation) → NotIn i rest → NotIn j rest
+        → CallersSet n W ramp t v dest rest → CallersSet n' W' ramp t v dest rest
     callers_keep ramp t v dest [] ni nj h = tt
-    callers_keep ramp t v dest (a ∷ rest) ni nj h =
-        (frame_keep a.id a.fun (WaitsFor a ramp t v dest) (λ e. ni.0 (sym e)) (λ e. nj.0 (sym e)) h.0, callers_keep a.fun.ramp a.fun.result (signs h.0.number).yields a.dest rest ni.1 nj.1 h.1)
+    callers_keep ramp t v dest (a ∷ rest) ni nj h = (
+      frame_keep a.id a.fun (WaitsFor a ramp t v dest) (λ e. ni.0 (sym e)) (λ e. nj.0 (sym e)) h.0,
+      callers_keep (is_ramp a.fun) a.fun.result (signatures h.0.number).yields a.dest rest ni.1 nj.1 h.1,
+    )

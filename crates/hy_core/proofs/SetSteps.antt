@@ -1,33 +1,39 @@
--- Statements of a checked core that is told: none of them reads what is unset, and what is told to be set behind each of them is.
-use Rattle.std.proofs.Common.{◌≡◌, ◌≢◌, ⊎_elim, ℕ, zero, suc, ◌<◌, ◌==◌, Bool, true, false, cond, nat_lt, List, [], ◌∷◌, ◌++◌, length, Option, Some, None, slice_get, refl, sym, ap, ◌∙◌, subst, append_assoc, arith}
+-- Statements of a checked core that has a flow: none of them reads what is unset, and what is known to be set after each of them is.
+use Rattle.std.proofs.Common.{◌≡◌, ◌≢◌, ⊎_elim, ℕ, zero, suc, ◌<◌, ◌==◌, Bool, true, false, cond, nat_lt, List, [], ◌∷◌, ◌++◌, length, Option, Some, None}
+use Rattle.std.proofs.Common.{slice_get, refl, sym, ap, ◌∙◌, subst, append_assoc, arith}
 use Rattle.std.specs.Prelude.{ℤ, pos, negsuc}
 use Rattle.std.proofs.lemmas.Bool.Decides.{eqb_tells}
 use Rattle.hy_base.specs.declared.run.End.TheVariants as end
 use Rattle.hy_types.specs.declared.kinds.TyId.{TyId}
-use Rattle.hy_core.specs.Plain.{Place, Operator, Set, Lend, Move, Copy, Fun, Core}
-use Rattle.hy_core.specs.Values.{Val, Number, Truth, Tuple, Product, No, Path, get, put, IsThere, is_whole}
+use Rattle.hy_core.specs.Plain.{Place, Operator, Set, Lend, Move, Copy, Fun, Core, is_ramp, lent_types}
+use Rattle.hy_core.specs.Values.{Val, Number, Truth, Tuple, Product, No, Path, get, put, IsThere, is_whole, Selector}
 use Rattle.hy_core.specs.Memory.{Key, whole, set_at, Way, Reads, Writes, Origin, Copies, close_copy, copying}
-use Rattle.hy_core.specs.Runs as op
-use Rattle.hy_core.specs.Runs.{Talk, Ask, Look, Tell, Next, apply}
+use Rattle.hy_core.specs.Runs as effect
+use Rattle.hy_core.specs.Runs.{Interaction, Fetch, Inspect, Perform, Return, apply}
 use Rattle.hy_core.specs.Calm.{IsKept, MayOpen, MayClose}
-use Rattle.hy_core.specs.Control.{Form, Numbers, Flags, Tuples, Products, Arrays, Unknown, form, local_type, Work, Nowhere, Activation, Ends, NotOpened, Control, GivesUp, Setting, stop, with_work, key, take, write, sleeper_of}
+use Rattle.hy_core.specs.Control.{Form, Numbers, Flags, Tuples, Products, Arrays, Unknown, form, local_type, Work, Nowhere, Activation, Ends, NotOpened}
+use Rattle.hy_core.specs.Control.{Control, GivesUp, Setting, stop, with_work, key, take, write, sleeper_of}
 use Rattle.hy_core.specs.Statements.{built, constant, Charge, Paid, Unpaid, charge, charged, close_of, is_counted, count_if, way, drop, does}
 use Rattle.hy_core.specs.Typing.{all, type_at, still, IsLeaf, IsSmall}
 use Rattle.hy_core.specs.Shaped.{IsOf, IsConstant, IsBuilt, Shaped}
-use Rattle.hy_core.specs.Told.{Loan, Status, Own, Param, Opened, Bound, Standing, IsSet, IsUnset, Cover, all_set, none_set, cover_at, with_cover, Face, Sign, Scene, set_local, with_standing, with_status, is_exact, IsEntered, IsSetAt, IsLocalSet, ReadOk, StoreOk, GiveOk, TakeOk, given, stored, Leads, IsLendable, opened_cover, opened, LendOk, come_back, ComesBack, Without, Closes, TellsBuilt}
-use Rattle.hy_core.specs.Told as told
+use Rattle.hy_core.specs.Flow.{Loan, Status, Own, Param, Opened, Bound, InitState, IsSet, IsUnset, InitMap, all_set, none_set, map_at, with_map, FlowState}
+use Rattle.hy_core.specs.Flow.{Signature, Context, set_local, with_init, with_status, is_exact, IsEntered, IsSetAt, IsLocalSet, ReadOk, StoreOk, GiveOk}
+use Rattle.hy_core.specs.Flow.{TakeOk, given, stored, FlowsInto, IsLendable, opened_map, opened, LendOk, come_back, ComesBack, Without, Closes}
+use Rattle.hy_core.specs.Flow.{TransfersBuilt}
+use Rattle.hy_core.specs.Flow as transfer
 use Rattle.hy_core.proofs.Keys.{set_same, set_other, at_key}
 use Rattle.hy_core.proofs.OpenPlaces.{Sound, sound_apply}
 use Rattle.hy_core.proofs.Typed.{form_at, form_on, Fits, typed_read}
 use Rattle.hy_core.proofs.TypedOperations.{has_constant}
-use Rattle.hy_core.proofs.CalmTalks.{at}
-use Rattle.hy_core.proofs.CalmFrames.{Sleeping, NotIn, Distinct_ids, scene}
+use Rattle.hy_core.proofs.CalmWalks.{at}
+use Rattle.hy_core.proofs.CalmFrames.{Sleeping, NotIn, Distinct_ids, context}
 use Rattle.hy_core.proofs.CalmStatements.{Ended, closes_end}
 use Rattle.hy_core.proofs.CalmSteps.{Like, like_self, like_with, like_count, like_id}
-use Rattle.hy_core.proofs.SetValues.{cover_below, leaf_below, leaf_back, Sets, sets_exact, sets_inner, sets_part, sets_whole, all_sets}
-use Rattle.hy_core.proofs.SetMemories.{Covers, NotAway, Holds, holds_lend, holds_closed, BackOk}
-use Rattle.hy_core.proofs.SetTalks.{Fine, over, stands, Sure, good_some, with_same, EndsAt, still_exact, still_array, LoanTie, LoanType, Tie, Now, typed_at, local_sets, fits_there, spot_set, spot_blank, spot_store, good_read, good_take, good_write, built_good, AllBound}
-use Rattle.hy_core.proofs.SetFrames.{Tells_less, leads_less, WorkSet, Runs_on, CallersSet, AsleepSet, Stands, Changes, frame_keep, callers_keep}
+use Rattle.hy_core.proofs.SetValues.{map_below, leaf_below, leaf_back, Sets, sets_exact, sets_inner, sets_part, sets_whole, all_sets}
+use Rattle.hy_core.proofs.SetMemories.{InitMaps, NotAway, Holds, holds_lend, holds_closed, BackOk}
+use Rattle.hy_core.proofs.SetWalks.{Fine, over, stands, Sure, good_some, with_same, EndsAt, still_exact, still_array, LoanTie, LoanType, Tie, Now, typed_at}
+use Rattle.hy_core.proofs.SetWalks.{local_sets, fits_there, spot_set, spot_blank, spot_store, good_read, good_take, good_write, built_good, AllBound}
+use Rattle.hy_core.proofs.SetFrames.{SameInit, flows_less, WorkSet, Runs_on, CallersSet, AsleepSet, Stands, Changes, frame_keep, callers_keep}
 
 all_get : {A : Type 0} (P : A → Type 0) (xs : List A) (l : ℕ) (t : A) → all P xs → slice_get xs l ≡ Some t → P t
 all_get P [] l t h e = absurd (cc)
@@ -39,14 +45,16 @@ all_front P [] ys h = tt
 all_front P (x ∷ xs) ys h = (h.0, all_front P xs ys h.1)
 
 -- the types of locals are small
-pub small_of : (core : Core) (sh : Shaped core) (n : ℕ) (f : Fun) → slice_get core.funs n ≡ Some f → (l : ℕ) (t : TyId) → local_type f l ≡ Some t → IsSmall core.types t
-small_of core sh n f e l t is = all_get (IsSmall core.types) (f.lent ++ (f.owned ++ f.locals)) l t
-    (all_front (IsSmall core.types) (f.lent ++ (f.owned ++ f.locals)) (f.result ∷ [])
-    (subst (all (IsSmall core.types)) (sym (append_assoc f.lent (f.owned ++ f.locals) (f.result ∷ []) ∙ ap (λ r. f.lent ++ r) (append_assoc f.owned f.locals (f.result ∷ [])))) (sh.funs n f e).small)) is
+pub small_of : (core : Core) (sh : Shaped core) (n : ℕ) (f : Fun) → slice_get core.funs n ≡ Some f → (l : ℕ) (t : TyId) → local_type f l ≡ Some t
+    → IsSmall core.types t
+small_of core sh n f e l t is = all_get (IsSmall core.types) ((lent_types f) ++ (f.owned ++ f.locals)) l t
+    (all_front (IsSmall core.types) ((lent_types f) ++ (f.owned ++ f.locals)) (f.result ∷ [])
+    (subst (all (IsSmall core.types)) (sym (append_assoc (lent_types f) (f.owned ++ f.locals) (f.result ∷ [])
+    ∙ ap (λ r. (lent_types f) ++ r) (append_assoc f.owned f.locals (f.result ∷ [])))) (sh.funs n f e).small)) is
 
 -- what a `Set` stores is whole
 whole_constant : (f : Form) (n : ℤ) (v : Val) → constant f n ≡ Some v → is_whole v ≡ true
-whole_constant Numbers n v e = let z : Number n ≡ v = cc in ap is_whole (sym z)
+whole_constant (Numbers k) n v e = let z : Number k n ≡ v = cc in ap is_whole (sym z)
 whole_constant Flags (pos zero) v e = let z : Truth false ≡ v = cc in ap is_whole (sym z)
 whole_constant Flags (pos (suc n)) v e = let z : Truth true ≡ v = cc in ap is_whole (sym z)
 whole_constant Flags (negsuc n) v e = absurd (cc)
@@ -66,32 +74,34 @@ pub record Ids (id : ℕ) (callers : List Activation) (asl : Sleeping) : Type 0 
   pub apart : (k : Key) (b : Activation) → asl k ≡ Some b → NotIn b.id callers
   pub alone : (k l : Key) (b d : Activation) → asl k ≡ Some b → asl l ≡ Some d → b.id ≡ d.id → k ≡ l
 
-module _ (p : Setting) (signs : ℕ → Sign) where
-  -- all that is told of a state but for what is left to do
-  pub record Here (c : Control) (m : Copies) (number : ℕ) (g : Face) : Type 0 where
+module _ (p : Setting) (signatures : ℕ → Signature) where
+  -- all that is known of a state but for what is left to do
+  pub record Here (c : Control) (m : Copies) (number : ℕ) (g : FlowState) : Type 0 where
     pub none : c.halt ≡ None
     pub ty : Key → Option TyId
-    pub covers : Covers
-    pub promised : Covers
-    pub holds : Holds p.core.types ty c.started covers promised m
+    pub maps : InitMaps
+    pub promised : InitMaps
+    pub holds : Holds p.core.types ty c.started maps promised m
     pub sound : Sound m
     pub found : slice_get p.core.funs number ≡ Some c.now.fun
     pub below : c.now.id < c.started
     pub locals : (l : ℕ) → ty (at c.now.id l) ≡ local_type c.now.fun l
-    pub agrees : (l : ℕ) (t : TyId) (q : Path) → local_type c.now.fun l ≡ Some t → IsLeaf p.core.types t q → g.standing l q ≡ covers (at c.now.id l) q
+    pub agrees : (l : ℕ) (t : TyId) (q : Path) → local_type c.now.fun l ≡ Some t → IsLeaf p.core.types t q → g.init l q ≡ maps (at c.now.id l) q
     pub ties : (l : ℕ) → Tie p.core.types c.now.fun c.now.id l (g.status l) (m.opened (at c.now.id l))
-    pub params : (j : ℕ) → j < length c.now.fun.lent → (v : Way) × (g.status j ≡ Param v)
+    pub params : (j : ℕ) → j < length (lent_types c.now.fun) → (v : Way) × (g.status j ≡ Param v)
     pub bound : AllBound g.status (λ l. promised (at c.now.id l))
-    pub promises : (j : ℕ) → j < length c.now.fun.lent → (q : Path) → promised (at c.now.id j) q ≡ ((signs number).lent j).behind q
-    pub callers : CallersSet p signs c.started (record { ty = ty; covers = covers; promised = promised; slots = m.opened }) c.now.fun.ramp c.now.fun.result (signs number).yields c.now.dest c.callers
-    pub asleep : AsleepSet p signs c.started (record { ty = ty; covers = covers; promised = promised; slots = m.opened }) (sleeper_of c.asleep)
+    pub promises : (j : ℕ) → j < length (lent_types c.now.fun) → (q : Path) → promised (at c.now.id j) q ≡ ((signatures number).lent j).after q
+    pub callers : CallersSet p signatures c.started (record { ty = ty; maps = maps; promised = promised; slots = m.opened }) (is_ramp c.now.fun)
+        c.now.fun.result (signatures number).yields c.now.dest c.callers
+    pub asleep : AsleepSet p signatures c.started (record { ty = ty; maps = maps; promised = promised; slots = m.opened }) (sleeper_of c.asleep)
     pub ids : Ids c.now.id c.callers (sleeper_of c.asleep)
 
-  pub here_work : (c : Control) (m : Copies) (number : ℕ) (g : Face) (w : Work) (turns : ℕ) → Here c m number g → Here (with_work (record c { turns = turns }) w) m number g
+  pub here_work : (c : Control) (m : Copies) (number : ℕ) (g : FlowState) (w : Work) (turns : ℕ) → Here c m number g
+      → Here (with_work (record c { turns = turns }) w) m number g
   here_work c m number g w turns h = record {
     none = h.none;
     ty = h.ty;
-    covers = h.covers;
+    maps = h.maps;
     promised = h.promised;
     holds = h.holds;
     sound = h.sound;
@@ -108,18 +118,19 @@ module _ (p : Setting) (signs : ℕ → Sign) where
     ids = h.ids;
   }
 
-  pub here_less : (c : Control) (m : Copies) (number : ℕ) (g d : Face) → Tells_less (scene p signs number c.now.fun) g d → Here c m number g → Here c m number d
+  pub here_less : (c : Control) (m : Copies) (number : ℕ) (g d : FlowState) → SameInit (context p signatures number c.now.fun) g d → Here c m number g
+      → Here c m number d
   here_less c m number g d l h = record {
     none = h.none;
     ty = h.ty;
-    covers = h.covers;
+    maps = h.maps;
     promised = h.promised;
     holds = h.holds;
     sound = h.sound;
     found = h.found;
     below = h.below;
     locals = h.locals;
-    agrees = λ j t q e leaf. sym (l.standing j t q e leaf) ∙ h.agrees j t q e leaf;
+    agrees = λ j t q e leaf. sym (l.init j t q e leaf) ∙ h.agrees j t q e leaf;
     ties = λ j. subst (λ s. Tie p.core.types c.now.fun c.now.id j s (m.opened (at c.now.id j))) (l.status j) (h.ties j);
     params = λ j lt. let r = h.params j lt in (r.0, sym (l.status j) ∙ r.1);
     bound = λ j w e q. h.bound j w (l.status j ∙ e) q;
@@ -129,29 +140,43 @@ module _ (p : Setting) (signs : ℕ → Sign) where
     ids = h.ids;
   }
 
-  -- what is left to do is told
-  pub here_stands : (c : Control) (m : Copies) (number : ℕ) (g : Face) → Here c m number g → WorkSet (scene p signs number c.now.fun) c.now.work g → Stands p signs c m
+  -- what is left to do has a flow
+  pub here_stands : (c : Control) (m : Copies) (number : ℕ) (g : FlowState) → Here c m number g
+      → WorkSet (context p signatures number c.now.fun) c.now.work g → Stands p signatures c m
   here_stands c m number g h w = record {
     none = h.none;
     ty = h.ty;
-    covers = h.covers;
+    maps = h.maps;
     promised = h.promised;
     holds = h.holds;
     sound = h.sound;
-    now = record { number = number; found = h.found; below = h.below; locals = h.locals; face = g; agrees = h.agrees; ties = h.ties; params = h.params; bound = h.bound; promises = h.promises; goes = w };
+    now = record {
+      number = number;
+      found = h.found;
+      below = h.below;
+      locals = h.locals;
+      flow = g;
+      agrees = h.agrees;
+      ties = h.ties;
+      params =
+          h.params;
+      bound = h.bound;
+      promises = h.promises;
+      goes = w;
+    };
     callers = h.callers;
     asleep = h.asleep;
   }
 
-  module _ (sh : Shaped p.core) (c : Control) (m : Copies) (number : ℕ) (g : Face) (here : Here c m number g) where
-    abbrev pub x : Scene
-    x = scene p signs number c.now.fun
+  module _ (sh : Shaped p.core) (c : Control) (m : Copies) (number : ℕ) (g : FlowState) (here : Here c m number g) where
+    abbrev pub x : Context
+    x = context p signatures number c.now.fun
 
     abbrev pub S : Control → Copies → Type 0
-    S = Stands p signs
+    S = Stands p signatures
 
-    abbrev pub Left : Face → Type 0
-    Left d = WorkSet (scene p signs number c.now.fun) c.now.work d
+    abbrev pub Left : FlowState → Type 0
+    Left d = WorkSet (context p signatures number c.now.fun) c.now.work d
 
     abbrev pub mine : ℕ → Key
     mine l = at c.now.id l
@@ -159,26 +184,51 @@ module _ (p : Setting) (signs : ℕ → Sign) where
     pub small : (l : ℕ) (t : TyId) → local_type c.now.fun l ≡ Some t → IsSmall p.core.types t
     small = small_of p.core sh number c.now.fun here.found
 
-    abbrev pub NowOf : Face → Copies → Type 0
-    NowOf = Now p (Stands p signs) signs number here.ty c.started here.promised here.covers m.opened c here.locals here.below (small_of p.core sh number c.now.fun here.found)
+    abbrev pub NowOf : FlowState → Copies → Type 0
+    NowOf = Now p (Stands p signatures) signatures number here.ty c.started here.promised here.maps m.opened c here.locals here.below
+        (small_of p.core sh number c.now.fun here.found)
 
     pub now_here : NowOf g m
-    now_here = record { covers = here.covers; holds = here.holds; agrees = here.agrees; others = λ k n. refl; ties = here.ties; params = here.params; bound = here.bound; same = refl; sound = here.sound }
+    now_here = record {
+      maps = here.maps;
+      holds = here.holds;
+      agrees = here.agrees;
+      others = λ k n. refl;
+      ties = here.ties;
+      params = here.params;
+      bound =
+          here.bound;
+      same = refl;
+      sound = here.sound;
+    }
 
     -- a change at what is the body's own leaves all others
-    module _ (m' : Copies) (d : Face) (covers' : Covers) (holds' : Holds p.core.types here.ty c.started covers' here.promised m') (sound' : Sound m')
-        (agrees' : (l : ℕ) (t : TyId) (q : Path) → local_type c.now.fun l ≡ Some t → IsLeaf p.core.types t q → d.standing l q ≡ covers' (at c.now.id l) q)
-        (others : (k : Key) → k.act ≢ c.now.id → covers' k ≡ here.covers k) (slots' : (k : Key) → k.act ≢ c.now.id → m'.opened k ≡ m.opened k)
-        (ties' : (l : ℕ) → Tie p.core.types c.now.fun c.now.id l (d.status l) (m'.opened (at c.now.id l))) (params' : (j : ℕ) → j < length c.now.fun.lent → (v : Way) × (d.status j ≡ Param v))
+    module _ (m' : Copies) (d : FlowState) (maps' : InitMaps) (holds' : Holds p.core.types here.ty c.started maps' here.promised m') (sound' : Sound m')
+        (agrees' : (l : ℕ) (t : TyId) (q : Path) → local_type c.now.fun l ≡ Some t → IsLeaf p.core.types t q → d.init l q ≡ maps' (at c.now.id l) q)
+        (others : (k : Key) → k.act ≢ c.now.id → maps' k ≡ here.maps k) (slots' : (k : Key) → k.act ≢ c.now.id → m'.opened k ≡ m.opened k)
+        (ties' : (l : ℕ) → Tie p.core.types c.now.fun c.now.id l (d.status l) (m'.opened (at c.now.id l))) (params' : (j : ℕ)
+        → j < length (lent_types c.now.fun) → (v : Way) × (d.status j ≡ Param v))
         (bound' : AllBound d.status (λ l. here.promised (at c.now.id l))) where
-      own_changes : Changes p signs c.now.id c.now.id c.started c.started (record { ty = here.ty; covers = here.covers; promised = here.promised; slots = m.opened }) (record { ty = here.ty; covers = covers'; promised = here.promised; slots = m'.opened })
-      own_changes = record { more = omega arith; ty = λ k b i j. refl; covers = λ k b i j. others k i; promised = λ k b i j. refl; slots = λ k b i j. slots' k i }
+      own_changes : Changes p signatures c.now.id c.now.id c.started c.started (record {
+        ty = here.ty;
+        maps = here.maps;
+        promised = here.promised;
+        slots =
+            m.opened;
+      }) (record { ty = here.ty; maps = maps'; promised = here.promised; slots = m'.opened })
+      own_changes = record {
+        more = omega arith;
+        ty = λ k b i j. refl;
+        maps = λ k b i j. others k i;
+        promised = λ k b i j. refl;
+        slots = λ k b i j. slots' k i;
+      }
 
       pub here_after : Here c m' number d
       here_after = record {
         none = here.none;
         ty = here.ty;
-        covers = covers';
+        maps = maps';
         promised = here.promised;
         holds = holds';
         sound = sound';
@@ -190,76 +240,121 @@ module _ (p : Setting) (signs : ℕ → Sign) where
         params = params';
         bound = bound';
         promises = here.promises;
-        callers = callers_keep p signs c.now.id c.now.id c.started c.started _ _ own_changes c.now.fun.ramp c.now.fun.result (signs number).yields c.now.dest c.callers here.ids.not_now here.ids.not_now here.callers;
-        asleep = λ k b e. frame_keep p signs c.now.id c.now.id c.started c.started _ _ own_changes b.id b.fun (Runs_on p signs b) (here.ids.other k b e) (here.ids.other k b e) (here.asleep k b e);
+        callers = callers_keep p signatures c.now.id c.now.id c.started c.started _ _ own_changes (is_ramp c.now.fun) c.now.fun.result
+            (signatures number).yields c.now.dest c.callers here.ids.not_now here.ids.not_now here.callers;
+        asleep = λ k b e. frame_keep p signatures c.now.id c.now.id c.started c.started _ _ own_changes b.id b.fun (Runs_on p signatures b)
+            (here.ids.other k b e) (here.ids.other k b e) (here.asleep k b e);
         ids = here.ids;
       }
 
-    pub like_stands : (e : Control) (m' : Copies) (d : Face) → Like c e → Here c m' number d → Left d → Stands p signs e m'
-    like_stands e m' d like h w = subst (λ e. Stands p signs e m') (sym like.is) (record {
+    pub like_stands : (e : Control) (m' : Copies) (d : FlowState) → Like c e → Here c m' number d → Left d → Stands p signatures e m'
+    like_stands e m' d like h w = subst (λ e. Stands p signatures e m') (sym like.is) (record {
       none = h.none;
       ty = h.ty;
-      covers = h.covers;
+      maps = h.maps;
       promised = h.promised;
       holds = h.holds;
       sound = h.sound;
-      now = record { number = number; found = h.found; below = h.below; locals = h.locals; face = d; agrees = h.agrees; ties = h.ties; params = h.params; bound = h.bound; promises = h.promises; goes = w };
+      now = record {
+        number = number;
+        found = h.found;
+        below = h.below;
+        locals = h.locals;
+        flow = d;
+        agrees = h.agrees;
+        ties = h.ties;
+        params =
+            h.params;
+        bound = h.bound;
+        promises = h.promises;
+        goes = w;
+      };
       callers = h.callers;
       asleep = h.asleep;
     })
 
-    pub here_now : (h : Face) (m' : Copies) → NowOf h m' → Here c m' number h
-    here_now h m' now = here_after m' h now.covers now.holds now.sound now.agrees now.others (λ k n. ap (λ s. s k) now.same)
+    pub here_now : (h : FlowState) (m' : Copies) → NowOf h m' → Here c m' number h
+    here_now h m' now = here_after m' h now.maps now.holds now.sound now.agrees now.others (λ k n. ap (λ s. s k) now.same)
         (λ l. subst (λ s. Tie p.core.types c.now.fun c.now.id l (h.status l) (s (at c.now.id l))) (sym now.same) (now.ties l)) now.params now.bound
 
-    pub done_less : (d : Face) → Left d → (h : Face) (e : Control) (m' : Copies) → Like c e → NowOf h m' → Tells_less x h d → Fine (Stands p signs) e m'
+    pub done_less : (d : FlowState) → Left d → (h : FlowState) (e : Control) (m' : Copies) → Like c e → NowOf h m' → SameInit x h d
+        → Fine (Stands p signatures) e m'
     done_less d w h e m' like now less = stands (like_stands e m' d like (here_less c m' number h d less (here_now h m' now)) w)
 
-    pub done : (d : Face) → Left d → (h : Face) (e : Control) (m' : Copies) → Like c e → NowOf h m' → Leads x h d → Fine (Stands p signs) e m'
-    done d w h e m' like now leads = done_less d w h e m' like now (leads_less x h d leads)
+    pub done : (d : FlowState) → Left d → (h : FlowState) (e : Control) (m' : Copies) → Like c e → NowOf h m' → FlowsInto x h d
+        → Fine (Stands p signatures) e m'
+    done d w h e m' like now flows = done_less d w h e m' like now (flows_less x h d flows)
 
     -- TALKS of this activation
 
-    pub takes : (h : Face) (m' : Copies) → NowOf h m' → (place : Place) (u : TyId) (go : Control → Val → Talk Control) → IsOf p.core c.now.fun u place → TakeOk x h place
-        → ((e : Control) (v : Val) (m' : Copies) → Like c e → Fits p.core.types (form p.core.types u) v → is_whole v ≡ true → NowOf (given x h place) m' → Sure S (go e v) m') → (e : Control) → Like c e → Sure S (take p e place go) m'
-    takes h m' now place u go of ok next e like = good_take p (Stands p signs) signs number here.ty c.started here.promised here.covers m.opened c here.locals here.below (small_of p.core sh number c.now.fun here.found) h m' now place u go of ok next e like
+    pub takes : (h : FlowState) (m' : Copies) → NowOf h m' → (place : Place) (u : TyId) (go : Control → Val → Interaction Control)
+        → IsOf p.core c.now.fun u place → TakeOk x h place
+        → ((e : Control) (v : Val) (m' : Copies) → Like c e → Fits p.core.types (form p.core.types u) v → is_whole v ≡ true → NowOf (given x h place) m'
+        → Sure S (go e v) m') → (e : Control) → Like c e → Sure S (take p e place go) m'
+    takes h m' now place u go of ok next e like =
+        good_take p (Stands p signatures) signatures number here.ty c.started here.promised here.maps m.opened c here.locals here.below
+        (small_of p.core sh number c.now.fun here.found) h m' now place u go of ok next e like
 
-    pub writes : (h : Face) (m' : Copies) → NowOf h m' → (place : Place) (u : TyId) (v : Val) (go : Control → Talk Control) → IsOf p.core c.now.fun u place → StoreOk x h place → Fits p.core.types (form p.core.types u) v → is_whole v ≡ true
-        → ((e : Control) (m' : Copies) → Like c e → NowOf (stored x h place) m' → Sure S (go e) m') → (e : Control) → Like c e → Sure S (write p e place v go) m'
-    writes h m' now place u v go of ok fits whole next e like = good_write p (Stands p signs) signs number here.ty c.started here.promised here.covers m.opened c here.locals here.below (small_of p.core sh number c.now.fun here.found) h m' now place u v go of ok fits whole next e like
+    pub writes : (h : FlowState) (m' : Copies) → NowOf h m' → (place : Place) (u : TyId) (v : Val) (go : Control → Interaction Control)
+        → IsOf p.core c.now.fun u place → StoreOk x h place → Fits p.core.types (form p.core.types u) v → is_whole v ≡ true
+        → ((e : Control) (m' : Copies) → Like c e → NowOf (stored x h place) m' → Sure S (go e) m') → (e : Control) → Like c e
+        → Sure S (write p e place v go) m'
+    writes h m' now place u v go of ok fits whole next e like =
+        good_write p (Stands p signatures) signatures number here.ty c.started here.promised here.maps m.opened c here.locals here.below
+        (small_of p.core sh number c.now.fun here.found) h m' now place u v go of ok fits whole next e like
 
     -- STATEMENTS that open and close nothing
 
-    pub built_set : (o : Operator) (to : Option Place) (from : List Place) (spans : List ℕ) (d : Face) → TellsBuilt x o to from g d → IsBuilt p.core c.now.fun o to from spans → Left d → Sure S (built p c o to from spans) m
-    built_set o to from spans d t is w = built_good p (Stands p signs) signs number here.ty c.started here.promised here.covers m.opened c here.locals here.below (small_of p.core sh number c.now.fun here.found) d (λ h e m' like now leads. done d w h e m' like now leads) g m now_here o to from spans t is c (like_self c)
+    pub built_set : (o : Operator) (to : Option Place) (from : List Place) (spans : List ℕ) (d : FlowState) → TransfersBuilt x o to from g d
+        → IsBuilt p.core c.now.fun o to from spans → Left d → Sure S (built p c o to from spans) m
+    built_set o to from spans d t is w =
+        built_good p (Stands p signatures) signatures number here.ty c.started here.promised here.maps m.opened c here.locals here.below
+        (small_of p.core sh number c.now.fun here.found) d (λ h e m' like now flows. done d w h e m' like now flows) g m now_here o to from spans t is c
+        (like_self c)
 
-    pub set_set : (to : Place) (k : ℤ) (u : TyId) (d : Face) → IsOf p.core c.now.fun u to → IsConstant p.core c.now.fun (form p.core.types u) k → StoreOk x g to → Leads x (stored x g to) d → Left d → Sure S (does p c (Set to k)) m
-    set_set to k u d of con ok leads w = spot_store p (Stands p signs) signs number here.ty c.started here.promised here.covers m.opened c here.locals here.below (small_of p.core sh number c.now.fun here.found) g m now_here to u _ of ok (λ e m' s like store.
+    pub set_set : (to : Place) (k : ℤ) (u : TyId) (d : FlowState) → IsOf p.core c.now.fun u to → IsConstant p.core c.now.fun (form p.core.types u) k
+        → StoreOk x g to → FlowsInto x (stored x g to) d → Left d → Sure S (does p c (Set to k)) m
+    set_set to k u d of con ok flows w =
+        spot_store p (Stands p signatures) signatures number here.ty c.started here.promised here.maps m.opened c here.locals here.below
+        (small_of p.core sh number c.now.fun here.found) g m now_here to u _ of ok (λ e m' s like store.
         good_some p S e (constant (form p.core.types u) k) _ m' (λ v is calm.
         let f = has_constant p.core c.now.fun (form p.core.types u) u k refl con in
         let z : f.0 ≡ v = some_val f.0 v (sym f.1 ∙ is) in
-        let y = store v (subst (Fits p.core.types (form p.core.types u)) z f.2) (whole_constant (form p.core.types u) k v is) calm.0 in (y.0, done d w (stored x g to) e _ like y.1 leads))) c (like_self c)
+        let y = store v (subst (Fits p.core.types (form p.core.types u)) z f.2) (whole_constant (form p.core.types u) k v is) calm.0 in
+        (y.0, done d w (stored x g to) e _ like y.1 flows))) c (like_self c)
       where
         some_val : (a b : Val) → Some a ≡ Some b → a ≡ b
         some_val a b e = cc
 
-    pub move_set : (to from : Place) (u : TyId) (d : Face) → IsOf p.core c.now.fun u to → IsOf p.core c.now.fun u from → TakeOk x g from → StoreOk x (given x g from) to → Leads x (stored x (given x g from) to) d → Left d → Sure S (does p c (Move to from)) m
-    move_set to from u d to_of from_of ok store leads w = takes g m now_here from u _ from_of ok (λ e v m' like fits whole now.
-        writes (given x g from) m' now to u v Next to_of store fits whole (λ e m' like now calm. done d w (stored x (given x g from) to) e m' like now leads) e like) c (like_self c)
+    pub move_set : (to from : Place) (u : TyId) (d : FlowState) → IsOf p.core c.now.fun u to → IsOf p.core c.now.fun u from → TakeOk x g from
+        → StoreOk x (given x g from) to → FlowsInto x (stored x (given x g from) to) d → Left d → Sure S (does p c (Move to from)) m
+    move_set to from u d to_of from_of ok store flows w = takes g m now_here from u _ from_of ok (λ e v m' like fits whole now.
+        writes (given x g from) m' now to u v Return to_of store fits whole
+        (λ e m' like now calm. done d w (stored x (given x g from) to) e m' like now flows) e like) c (like_self c)
 
-    pub copy_set : (to from : Place) (u : TyId) (d : Face) → IsOf p.core c.now.fun u to → IsOf p.core c.now.fun u from → ReadOk x g from → StoreOk x g to → Leads x (stored x g to) d → Left d → Sure S (does p c (Copy to from)) m
-    copy_set to from u d to_of from_of ok store leads w = good_read p (Stands p signs) signs number here.ty c.started here.promised here.covers m.opened c here.locals here.below (small_of p.core sh number c.now.fun here.found) g m now_here from u _ from_of ok (λ e v like fits whole. by e v (charge v e.turns e.opened) like fits whole) c (like_self c)
+    pub copy_set : (to from : Place) (u : TyId) (d : FlowState) → IsOf p.core c.now.fun u to → IsOf p.core c.now.fun u from → ReadOk x g from
+        → StoreOk x g to → FlowsInto x (stored x g to) d → Left d → Sure S (does p c (Copy to from)) m
+    copy_set to from u d to_of from_of ok store flows w =
+        good_read p (Stands p signatures) signatures number here.ty c.started here.promised here.maps m.opened c here.locals here.below
+        (small_of p.core sh number c.now.fun here.found) g m now_here from u _ from_of ok
+        (λ e v like fits whole. by e v (charge v e.turns e.opened) like fits whole) c (like_self c)
       where
-        by : (e : Control) (v : Val) (y : Charge) → Like c e → Fits p.core.types (form p.core.types u) v → is_whole v ≡ true → Sure S (charged e y (λ e. write p e to v Next)) m
-        by e v (Paid k o) like fits whole = writes g m now_here to u v Next to_of store fits whole (λ e m' like now calm. done d w (stored x g to) e m' like now leads) (record e { turns = k; opened = o }) (like_with c e k o e.input e.output like)
+        by : (e : Control) (v : Val) (y : Charge) → Like c e → Fits p.core.types (form p.core.types u) v → is_whole v ≡ true
+            → Sure S (charged e y (λ e. write p e to v Return)) m
+        by e v (Paid k o) like fits whole =
+            writes g m now_here to u v Return to_of store fits whole (λ e m' like now calm. done d w (stored x g to) e m' like now flows)
+            (record e { turns = k; opened = o }) (like_with c e k o e.input e.output like)
         by e v (Unpaid o) like fits whole = λ calm. over (Ends end.Spent) refl (λ e. absurd (cc))
 
-    pub drop_set : (place : Place) (u : TyId) (d : Face) → IsOf p.core c.now.fun u place → TakeOk x g place → Leads x (given x g place) d → Left d → Sure S (drop p GivesUp c place) m
-    drop_set place u d of ok leads w = takes g m now_here place u _ of ok (λ e v m' like fits whole now calm. done d w (given x g place) e m' like now leads) c (like_self c)
+    pub drop_set : (place : Place) (u : TyId) (d : FlowState) → IsOf p.core c.now.fun u place → TakeOk x g place → FlowsInto x (given x g place) d → Left d
+        → Sure S (drop p GivesUp c place) m
+    drop_set place u d of ok flows w =
+        takes g m now_here place u _ of ok (λ e v m' like fits whole now calm. done d w (given x g place) e m' like now flows) c (like_self c)
 
     -- LENDING a place of one's own
 
-    module _ (to : ℕ) (place : Place) (w : Way) (u : TyId) (local : local_type c.now.fun to ≡ Some u) (of : IsOf p.core c.now.fun u place) (ok : LendOk x g to place w) (d : Face) (leads : Leads x (opened x g to place w) d) (left : Left d) (b : Bool) where
+    module _ (to : ℕ) (place : Place) (w : Way) (u : TyId) (local : local_type c.now.fun to ≡ Some u) (of : IsOf p.core c.now.fun u place)
+        (ok : LendOk x g to place w) (d : FlowState) (flows : FlowsInto x (opened x g to place w) d) (left : Left d) (b : Bool) where
       abbrev loan : Loan
       loan = record { base = place.local; path = still place.steps; exact = is_exact place.steps; way = w }
 
@@ -271,32 +366,45 @@ module _ (p : Setting) (signs : ℕ → Sign) where
       no_own s e r = let z = r.1 in absurd (cc)
 
       -- once it is open
-      lent : (m' : Copies) (now : NowOf g m') (r : Path) (cover : Cover) → EndsAt (is_exact place.steps) (still place.steps) r → form_on p.core.types (form_at p.core.types (here.ty (mine place.local))) r ≡ form p.core.types u
-          → ((q : Path) → IsLeaf p.core.types u q → opened_cover x g place (is_exact place.steps) q ≡ cover q)
-          → (IsKept m' (mine place.local) → Sets p.core.types u cover (get r (m'.value (mine place.local)))) → LoanType p.core.types c.now.fun to loan (is_exact place.steps)
-          → (e : Control) → Like c e → Sure S (Tell (op.Lend (key e to) (record { key = mine place.local; path = r }) w) (Next (count_if b e))) m'
-      lent m' now r cover ends form_is covered sets type e like =
-          subst (λ k. Sure S (Tell (op.Lend k (record { key = mine place.local; path = r }) w) (Next (count_if b e))) m') (sym (ap (λ i. at i to) (like_id c e like))) (λ calm.
+      lent : (m' : Copies) (now : NowOf g m') (r : Path) (init_map : InitMap) → EndsAt (is_exact place.steps) (still place.steps) r
+          → form_on p.core.types (form_at p.core.types (here.ty (mine place.local))) r ≡ form p.core.types u
+          → ((q : Path) → IsLeaf p.core.types u q → opened_map x g place (is_exact place.steps) q ≡ init_map q)
+          → (IsKept m' (mine place.local) → Sets p.core.types u init_map (get r (m'.value (mine place.local))))
+          → LoanType p.core.types c.now.fun to loan (is_exact place.steps)
+          → (e : Control) → Like c e → Sure S (Perform (effect.Lend (key e to) (record { key = mine place.local; path = r }) w) (Return (count_if b e))) m'
+      lent m' now r init_map ends form_is covered sets type e like =
+          subst (λ k. Sure S (Perform (effect.Lend k (record { key = mine place.local; path = r }) w) (Return (count_if b e))) m')
+          (sym (ap (λ i. at i to) (like_id c e like))) (λ calm.
           let may = calm.0 in (
             tt,
-            stands (like_stands (count_if b e) _ d (count_like b e like) (here_less c _ number (opened x g to place w) d (leads_less x (opened x g to place w) d leads)
-                (here_after (copying.lend m' (mine to) (record { key = mine place.local; path = r }) w) (opened x g to place w) (set_at now.covers (mine to) cover)
-                (holds_lend p.core.types here.ty c.started now.covers (set_at now.covers (mine to) cover) here.promised m' (mine to) (record { key = mine place.local; path = r }) w now.holds may refl here.below here.below
-                (ap (form_at p.core.types) (here.locals to ∙ local) ∙ sym form_is) (λ k n. set_other now.covers (mine to) cover k n)
-                (λ t y. subst (λ c. Sets p.core.types t c (get r (m'.value (mine place.local)))) (sym (set_same now.covers (mine to) cover))
-                (let z : u ≡ t = same_type (sym local ∙ sym (here.locals to) ∙ y) in subst (λ t. Sets p.core.types t cover (get r (m'.value (mine place.local)))) z (sets (kept_of w may.free)))))
-                (sound_apply (op.Lend (mine to) (record { key = mine place.local; path = r }) w) m' may now.sound)
-                (λ j t q e leaf. ⊎_elim (λ y. ap (λ b. cond b (opened_cover x g place (is_exact place.steps)) (g.standing j) q) y.0 ∙ lent_to j t q e leaf y)
-                (λ y. ap (λ b. cond b (opened_cover x g place (is_exact place.steps)) (g.standing j) q) y.0 ∙ now.agrees j t q e leaf ∙ sym (ap (λ c. c q) (set_other now.covers (mine to) cover (mine j) (λ z. y.1 (ap (λ k. k.local) z))))) (eqb_tells j to))
-                (λ k n. set_other now.covers (mine to) cover k (λ z. n (ap (λ k. k.act) z)) ∙ now.others k n)
+            stands (like_stands (count_if b e) _ d (count_like b e like)
+                (here_less c _ number (opened x g to place w) d (flows_less x (opened x g to place w) d flows)
+                (here_after (copying.lend m' (mine to) (record { key = mine place.local; path = r }) w) (opened x g to place w)
+                (set_at now.maps (mine to) init_map)
+                (holds_lend p.core.types here.ty c.started now.maps (set_at now.maps (mine to) init_map) here.promised m' (mine to)
+                (record { key = mine place.local; path = r }) w now.holds may refl here.below here.below
+                (ap (form_at p.core.types) (here.locals to ∙ local) ∙ sym form_is) (λ k n. set_other now.maps (mine to) init_map k n)
+                (λ t y. subst (λ c. Sets p.core.types t c (get r (m'.value (mine place.local)))) (sym (set_same now.maps (mine to) init_map))
+                (let z : u ≡ t = same_type (sym local ∙ sym (here.locals to) ∙ y) in
+                subst (λ t. Sets p.core.types t init_map (get r (m'.value (mine place.local)))) z (sets (kept_of w may.free)))))
+                (sound_apply (effect.Lend (mine to) (record { key = mine place.local; path = r }) w) m' may now.sound)
+                (λ j t q e leaf. ⊎_elim (λ y. ap (λ b. cond b (opened_map x g place (is_exact place.steps)) (g.init j) q) y.0 ∙ lent_to j t q e leaf y)
+                (λ y. ap (λ b. cond b (opened_map x g place (is_exact place.steps)) (g.init j) q) y.0 ∙ now.agrees j t q e leaf
+                ∙ sym (ap (λ c. c q) (set_other now.maps (mine to) init_map (mine j) (λ z. y.1 (ap (λ k. k.local) z))))) (eqb_tells j to))
+                (λ k n. set_other now.maps (mine to) init_map k (λ z. n (ap (λ k. k.act) z)) ∙ now.others k n)
                 (λ k n. set_other m'.opened (mine to) _ k (λ z. n (ap (λ k. k.act) z)) ∙ ap (λ s. s k) now.same)
                 (λ j. ⊎_elim
-                (λ y. subst (λ s. Tie p.core.types c.now.fun c.now.id j s (set_at m'.opened (mine to) (Some new) (mine j))) (sym (ap (λ b. cond b (Opened loan) (g.status j)) y.0))
+                (λ y. subst (λ s. Tie p.core.types c.now.fun c.now.id j s (set_at m'.opened (mine to) (Some new) (mine j)))
+                (sym (ap (λ b. cond b (Opened loan) (g.status j)) y.0))
                 (λ o is. subst (λ j. LoanTie p.core.types c.now.fun c.now.id j loan o) (sym y.1)
-                (let z : new ≡ o = some_origin new o (sym (set_same m'.opened (mine to) (Some new)) ∙ ap (λ j. set_at m'.opened (mine to) (Some new) (mine j)) (sym y.1) ∙ is) in
+                (let z : new ≡ o = some_origin new o (sym (set_same m'.opened (mine to) (Some new))
+                ∙ ap (λ j. set_at m'.opened (mine to) (Some new) (mine j)) (sym y.1) ∙ is) in
                 subst (λ o. LoanTie p.core.types c.now.fun c.now.id to loan o) z (record { base = refl; way = refl; ends = ends; type = type }))))
-                (λ y. subst (λ s. Tie p.core.types c.now.fun c.now.id j s (set_at m'.opened (mine to) (Some new) (mine j))) (sym (ap (λ b. cond b (Opened loan) (g.status j)) y.0))
-                (subst (Tie p.core.types c.now.fun c.now.id j (g.status j)) (sym (set_other m'.opened (mine to) (Some new) (mine j) (λ z. y.1 (ap (λ k. k.local) z)) ∙ ap (λ s. s (mine j)) now.same)) (here.ties j))) (eqb_tells j to))
+                (λ y. subst (λ s. Tie p.core.types c.now.fun c.now.id j s (set_at m'.opened (mine to) (Some new) (mine j)))
+                (sym (ap (λ b. cond b (Opened loan) (g.status j)) y.0))
+                (subst (Tie p.core.types c.now.fun c.now.id j (g.status j))
+                (sym (set_other m'.opened (mine to) (Some new) (mine j) (λ z. y.1 (ap (λ k. k.local) z)) ∙ ap (λ s. s (mine j)) now.same))
+                (here.ties j))) (eqb_tells j to))
                 (λ j lt. ⊎_elim (λ y. absurd (no_own (g.status j) (ap g.status y.1 ∙ ok.free.own) (here.params j lt)))
                 (λ y. let r = here.params j lt in (r.0, ap (λ b. cond b (Opened loan) (g.status j)) y.0 ∙ r.1)) (eqb_tells j to))
                 (λ j v e q. ⊎_elim (λ y. absurd (let z : Opened loan ≡ Bound v = sym (ap (λ b. cond b (Opened loan) (g.status j)) y.0) ∙ e in cc))
@@ -317,62 +425,97 @@ module _ (p : Setting) (signs : ℕ → Sign) where
           kept_of Reads may = may.kept
           kept_of Writes may = may.kept
 
-          lent_to : (j : ℕ) (t : TyId) (q : Path) → local_type c.now.fun j ≡ Some t → IsLeaf p.core.types t q → (((j == to) ≡ true) × (j ≡ to)) → opened_cover x g place (is_exact place.steps) q ≡ set_at now.covers (mine to) cover (mine j) q
-          lent_to j t q e leaf y = covered q (let z : t ≡ u = same_type (sym e ∙ ap (local_type c.now.fun) y.1 ∙ local) in subst (λ t. IsLeaf p.core.types t q) z leaf)
-              ∙ sym (ap (λ j. set_at now.covers (mine to) cover (mine j) q) y.1 ∙ ap (λ c. c q) (set_same now.covers (mine to) cover))
+          lent_to : (j : ℕ) (t : TyId) (q : Path) → local_type c.now.fun j ≡ Some t → IsLeaf p.core.types t q → (((j == to) ≡ true) × (j ≡ to))
+              → opened_map x g place (is_exact place.steps) q ≡ set_at now.maps (mine to) init_map (mine j) q
+          lent_to j t q e leaf y = covered q (let z : t ≡ u = same_type (sym e ∙ ap (local_type c.now.fun) y.1 ∙ local) in
+              subst (λ t. IsLeaf p.core.types t q) z leaf)
+              ∙ sym (ap (λ j. set_at now.maps (mine to) init_map (mine j) q) y.1 ∙ ap (λ c. c q) (set_same now.maps (mine to) init_map))
 
-      lent_part : (m' : Copies) (now : NowOf g m') → is_exact place.steps ≡ true → (e : Control) → Like c e → Sure S (Tell (op.Lend (key e to) (record { key = mine place.local; path = still place.steps }) w) (Next (count_if b e))) m'
+      lent_part : (m' : Copies) (now : NowOf g m') → is_exact place.steps ≡ true → (e : Control) → Like c e
+          → Sure S (Perform (effect.Lend (key e to) (record { key = mine place.local; path = still place.steps }) w) (Return (count_if b e))) m'
       lent_part m' now exact e like =
-          let is : type_at p.core.types (local_type c.now.fun place.local) (still place.steps) ≡ Some u = still_exact p.core.types (local_type c.now.fun place.local) place.steps u exact of.0 in
-          lent m' now (still place.steps) (cover_at (still place.steps) (now.covers (mine place.local))) (subst (λ b. EndsAt b (still place.steps) (still place.steps)) (sym exact) refl)
-          (typed_at p (Stands p signs) signs number here.ty c.started here.promised here.covers m.opened c here.locals here.below (small_of p.core sh number c.now.fun here.found) g m' now place.local (still place.steps) u is)
-          (λ q leaf. ap (λ b. opened_cover x g place b q) exact ∙ cover_below (still place.steps) (g.standing place.local) q ∙ part_covered (local_type c.now.fun place.local) refl is q leaf)
+          let is : type_at p.core.types (local_type c.now.fun place.local) (still place.steps) ≡ Some u =
+          still_exact p.core.types (local_type c.now.fun place.local) place.steps u exact of.0 in
+          lent m' now (still place.steps) (map_at (still place.steps) (now.maps (mine place.local)))
+          (subst (λ b. EndsAt b (still place.steps) (still place.steps)) (sym exact) refl)
+          (typed_at p (Stands p signatures) signatures number here.ty c.started here.promised here.maps m.opened c here.locals here.below
+          (small_of p.core sh number c.now.fun here.found) g m' now place.local (still place.steps) u is)
+          (λ q leaf. ap (λ b. opened_map x g place b q) exact ∙ map_below (still place.steps) (g.init place.local) q
+          ∙ part_covered (local_type c.now.fun place.local) refl is q leaf)
           (λ kept. part_sets (local_type c.now.fun place.local) refl is kept)
           (subst (LoanType p.core.types c.now.fun to loan) (sym exact) (is ∙ sym local)) e like
         where
-          part_covered : (o : Option TyId) → local_type c.now.fun place.local ≡ o → type_at p.core.types o (still place.steps) ≡ Some u → (q : Path) → IsLeaf p.core.types u q → g.standing place.local (still place.steps ++ q) ≡ cover_at (still place.steps) (now.covers (mine place.local)) q
+          part_covered : (o : Option TyId) → local_type c.now.fun place.local ≡ o → type_at p.core.types o (still place.steps) ≡ Some u → (q : Path)
+              → IsLeaf p.core.types u q → g.init place.local (still place.steps ++ q) ≡ map_at (still place.steps) (now.maps (mine place.local)) q
           part_covered None e is q leaf = absurd (cc)
-          part_covered (Some t) e is q leaf = now.agrees place.local t (still place.steps ++ q) e (leaf_below p.core.types t u (still place.steps) q is leaf) ∙ sym (cover_below (still place.steps) (now.covers (mine place.local)) q)
+          part_covered (Some t) e is q leaf =
+              now.agrees place.local t (still place.steps ++ q) e (leaf_below p.core.types t u (still place.steps) q is leaf)
+              ∙ sym (map_below (still place.steps) (now.maps (mine place.local)) q)
 
-          part_sets : (o : Option TyId) → local_type c.now.fun place.local ≡ o → type_at p.core.types o (still place.steps) ≡ Some u → IsKept m' (mine place.local)
-              → Sets p.core.types u (cover_at (still place.steps) (now.covers (mine place.local))) (get (still place.steps) (m'.value (mine place.local)))
+          part_sets : (o : Option TyId) → local_type c.now.fun place.local ≡ o → type_at p.core.types o (still place.steps) ≡ Some u
+              → IsKept m' (mine place.local)
+              → Sets p.core.types u (map_at (still place.steps) (now.maps (mine place.local))) (get (still place.steps) (m'.value (mine place.local)))
           part_sets None e is kept = absurd (cc)
-          part_sets (Some t) e is kept = sets_part p.core.types t u (now.covers (mine place.local)) (m'.value (mine place.local)) (still place.steps) (local_sets p (Stands p signs) signs number here.ty c.started here.promised here.covers m.opened c here.locals here.below (small_of p.core sh number c.now.fun here.found) g m' now place.local t e kept) is
+          part_sets (Some t) e is kept =
+              sets_part p.core.types t u (now.maps (mine place.local)) (m'.value (mine place.local)) (still place.steps)
+              (local_sets p (Stands p signatures) signatures number here.ty c.started here.promised here.maps m.opened c here.locals here.below
+              (small_of p.core sh number c.now.fun here.found) g m' now place.local t e kept) is
 
-      lent_element : is_exact place.steps ≡ false → (r : Path) → EndsAt (is_exact place.steps) (still place.steps) r → (IsKept m (mine place.local) → is_whole (get r (m.value (mine place.local))) ≡ true)
+      lent_element : is_exact place.steps ≡ false → (r : Path) → EndsAt (is_exact place.steps) (still place.steps) r
+          → (IsKept m (mine place.local) → is_whole (get r (m.value (mine place.local))) ≡ true)
           → form_on p.core.types (form_at p.core.types (here.ty (mine place.local))) r ≡ form p.core.types u → (e : Control) → Like c e
-          → Sure S (Tell (op.Lend (key e to) (record { key = mine place.local; path = r }) w) (Next (count_if b e))) m
+          → Sure S (Perform (effect.Lend (key e to) (record { key = mine place.local; path = r }) w) (Return (count_if b e))) m
       lent_element exact r ends wh form_is e like =
           let a = still_array p.core.types (local_type c.now.fun place.local) place.steps u exact of.0 in
-          lent m now_here r all_set ends form_is (λ q leaf. ap (λ b. opened_cover x g place b q) exact)
-          (λ kept. sets_whole p.core.types u (get r (m.value (mine place.local))) (fits_there p (Stands p signs) signs number here.ty c.started here.promised here.covers m.opened c here.locals here.below (small_of p.core sh number c.now.fun here.found) g m now_here place.local r (form p.core.types u) form_is) (wh kept))
+          lent m now_here r all_set ends form_is (λ q leaf. ap (λ b. opened_map x g place b q) exact)
+          (λ kept. sets_whole p.core.types u (get r (m.value (mine place.local)))
+          (fits_there p (Stands p signatures) signatures number here.ty c.started here.promised here.maps m.opened c here.locals here.below
+          (small_of p.core sh number c.now.fun here.found) g m now_here place.local r (form p.core.types u) form_is) (wh kept))
           (subst (LoanType p.core.types c.now.fun to loan) (sym exact) a) e like
 
-    pub lend_set : (to : ℕ) (place : Place) (w : Bool) (u : TyId) (d : Face) → local_type c.now.fun to ≡ Some u → IsOf p.core c.now.fun u place → LendOk x g to place (way w) → Leads x (opened x g to place (way w)) d → Left d
+    pub lend_set : (to : ℕ) (place : Place) (w : Bool) (u : TyId) (d : FlowState) → local_type c.now.fun to ≡ Some u → IsOf p.core c.now.fun u place
+        → LendOk x g to place (way w) → FlowsInto x (opened x g to place (way w)) d → Left d
         → Sure S (does p c (Lend to place w)) m
-    lend_set to place true u d local of ok leads left = by (is_exact place.steps) refl ok.lendable
+    lend_set to place true u d local of ok flows left = by (is_exact place.steps) refl ok.lendable
       where
         by : (b : Bool) → is_exact place.steps ≡ b → IsEntered x g place b → Sure S (does p c (Lend to place true)) m
-        by true exact entered = spot_blank p (Stands p signs) signs number here.ty c.started here.promised here.covers m.opened c here.locals here.below (small_of p.core sh number c.now.fun here.found) g m now_here place u _ of exact (λ e m' like now is. lent_part to place Writes u local of ok d leads left (is_counted place.steps) m' now exact e like) c (like_self c)
-        by false exact entered = spot_set p (Stands p signs) signs number here.ty c.started here.promised here.covers m.opened c here.locals here.below (small_of p.core sh number c.now.fun here.found) g m now_here Writes place u _ of ok.indexes entered
-            (λ e r like ends wh form_is. lent_element to place Writes u local of ok d leads left (is_counted place.steps) exact r ends wh form_is e like) c (like_self c)
-    lend_set to place false u d local of ok leads left = spot_set p (Stands p signs) signs number here.ty c.started here.promised here.covers m.opened c here.locals here.below (small_of p.core sh number c.now.fun here.found) g m now_here Reads place u _ of ok.indexes ok.lendable (λ e r like ends wh form_is. by (is_exact place.steps) refl e r like ends wh form_is) c (like_self c)
+        by true exact entered =
+            spot_blank p (Stands p signatures) signatures number here.ty c.started here.promised here.maps m.opened c here.locals here.below
+            (small_of p.core sh number c.now.fun here.found) g m now_here place u _ of exact
+            (λ e m' like now is. lent_part to place Writes u local of ok d flows left (is_counted place.steps) m' now exact e like) c (like_self c)
+        by false exact entered =
+            spot_set p (Stands p signatures) signatures number here.ty c.started here.promised here.maps m.opened c here.locals here.below
+            (small_of p.core sh number c.now.fun here.found) g m now_here Writes place u _ of ok.indexes entered
+            (λ e r like ends wh form_is. lent_element to place Writes u local of ok d flows left (is_counted place.steps) exact r ends wh form_is e like) c
+            (like_self c)
+    lend_set to place false u d local of ok flows left =
+        spot_set p (Stands p signatures) signatures number here.ty c.started here.promised here.maps m.opened c here.locals here.below
+        (small_of p.core sh number c.now.fun here.found) g m now_here Reads place u _ of ok.indexes ok.lendable
+        (λ e r like ends wh form_is. by (is_exact place.steps) refl e r like ends wh form_is) c (like_self c)
       where
-        by : (b : Bool) → is_exact place.steps ≡ b → (e : Control) (r : Path) → Like c e → EndsAt (is_exact place.steps) (still place.steps) r → (IsKept m (mine place.local) → is_whole (get r (m.value (mine place.local))) ≡ true)
-            → form_on p.core.types (form_at p.core.types (here.ty (mine place.local))) r ≡ form p.core.types u → Sure S (Tell (op.Lend (key e to) (record { key = mine place.local; path = r }) Reads) (Next (count_if (is_counted place.steps) e))) m
+        by : (b : Bool) → is_exact place.steps ≡ b → (e : Control) (r : Path) → Like c e → EndsAt (is_exact place.steps) (still place.steps) r
+            → (IsKept m (mine place.local) → is_whole (get r (m.value (mine place.local))) ≡ true)
+            → form_on p.core.types (form_at p.core.types (here.ty (mine place.local))) r ≡ form p.core.types u
+            → Sure S (Perform (effect.Lend (key e to) (record { key = mine place.local; path = r }) Reads)
+            (Return (count_if (is_counted place.steps) e))) m
         by true exact e r like ends wh form_is = let z : r ≡ still place.steps = subst (λ b. EndsAt b (still place.steps) r) exact ends in
-            subst (λ r. Sure S (Tell (op.Lend (key e to) (record { key = mine place.local; path = r }) Reads) (Next (count_if (is_counted place.steps) e))) m) (sym z) (lent_part to place Reads u local of ok d leads left (is_counted place.steps) m now_here exact e like)
-        by false exact e r like ends wh form_is = lent_element to place Reads u local of ok d leads left (is_counted place.steps) exact r ends wh form_is e like
+            subst (λ r. Sure S (Perform (effect.Lend (key e to) (record { key = mine place.local; path = r }) Reads)
+            (Return (count_if (is_counted place.steps) e))) m) (sym z)
+            (lent_part to place Reads u local of ok d flows left (is_counted place.steps) m now_here exact e like)
+        by false exact e r like ends wh form_is = lent_element to place Reads u local of ok d flows left
+            (is_counted place.steps) exact r ends wh form_is e like
 
-    -- a local that is told to be set is whole, where no other activation may change it
+    -- a local that is known to be set is whole, where no other activation may change it
     pub whole_local : (l : ℕ) (u : TyId) → local_type c.now.fun l ≡ Some u → IsLocalSet x g l → NotAway m.opened (mine l) → is_whole (m.value (mine l)) ≡ true
-    whole_local l u local set here_only = all_sets p.core.types u (here.covers (mine l)) (m.value (mine l)) (small l u local)
-        (subst (λ f. Fits p.core.types f (m.value (mine l))) (ap (form_at p.core.types) (here.locals l ∙ local)) (typed_read p.core.types (λ k. form_at p.core.types (here.ty k)) c.started m here.holds.typed (whole (mine l))))
+    whole_local l u local set here_only = all_sets p.core.types u (here.maps (mine l)) (m.value (mine l)) (small l u local)
+        (subst (λ f. Fits p.core.types f (m.value (mine l))) (ap (form_at p.core.types) (here.locals l ∙ local))
+        (typed_read p.core.types (λ k. form_at p.core.types (here.ty k)) c.started m here.holds.typed (whole (mine l))))
         (here.holds.set (mine l) here_only u (here.locals l ∙ local)) (λ q leaf. sym (here.agrees l u q local leaf) ∙ set u local q leaf)
 
     -- CLOSING what one lent to oneself
 
-    module _ (l : ℕ) (o : Loan) (u : TyId) (local : local_type c.now.fun l ≡ Some u) (st : g.status l ≡ Opened o) (d : Face) (t : Closes x g l o d) (left : Left d) (may : MayClose m (mine l)) where
+    module _ (l : ℕ) (o : Loan) (u : TyId) (local : local_type c.now.fun l ≡ Some u) (st : g.status l ≡ Opened o) (d : FlowState) (t : Closes x g l o d)
+        (left : Left d) (may : MayClose m (mine l)) where
       tie : LoanTie p.core.types c.now.fun c.now.id l o may.origin
       tie = let f = here.ties l in subst (λ s. Tie p.core.types c.now.fun c.now.id l s (m.opened (mine l))) st f may.origin may.opened
 
@@ -382,115 +525,137 @@ module _ (p : Setting) (signs : ℕ → Sign) where
       unaway : NotAway m.opened (mine l)
       unaway j i e b n w = may.shut j i e b
 
-      sets_here : Sets p.core.types u (here.covers (mine l)) (m.value (mine l))
+      sets_here : Sets p.core.types u (here.maps (mine l)) (m.value (mine l))
       sets_here = here.holds.set (mine l) unaway u (here.locals l ∙ local)
 
       there_base : IsThere may.origin.path (m.value (mine o.base))
       there_base = subst (λ k. IsThere may.origin.path (m.value k)) tie.base (here.sound.there (mine l) may.origin may.opened)
 
       -- with what is set then in the local that it comes back to
-      abbrev covers_with : Cover → Covers
-      covers_with B = set_at (set_at here.covers (mine o.base) B) (mine l) none_set
+      abbrev maps_with : InitMap → InitMaps
+      maps_with B = set_at (set_at here.maps (mine o.base) B) (mine l) none_set
 
-      base_covers : (B : Cover) → covers_with B (mine o.base) ≡ B
-      base_covers B = set_other (set_at here.covers (mine o.base) B) (mine l) none_set (mine o.base) not_base ∙ set_same here.covers (mine o.base) B
+      base_maps : (B : InitMap) → maps_with B (mine o.base) ≡ B
+      base_maps B = set_other (set_at here.maps (mine o.base) B) (mine l) none_set (mine o.base) not_base ∙ set_same here.maps (mine o.base) B
 
-      other_covers : (B : Cover) (k : Key) → k ≢ mine l → k ≢ mine o.base → covers_with B k ≡ here.covers k
-      other_covers B k n n' = set_other (set_at here.covers (mine o.base) B) (mine l) none_set k n ∙ set_other here.covers (mine o.base) B k n'
+      other_maps : (B : InitMap) (k : Key) → k ≢ mine l → k ≢ mine o.base → maps_with B k ≡ here.maps k
+      other_maps B k n n' = set_other (set_at here.maps (mine o.base) B) (mine l) none_set k n ∙ set_other here.maps (mine o.base) B k n'
 
-      ended : Ended (told.Mine l) l g d
+      ended : Ended (transfer.InLocal l) l g d
       ended = closes_end x g l o d t.2
 
-      -- what is told behind of each local
-      told_behind : (j : ℕ) (y : TyId) (q : Path) → local_type c.now.fun j ≡ Some y → IsLeaf p.core.types y q → d.standing j q ≡ set_local (come_back x g l o o.way o.exact).standing l none_set j q
-      told_behind j y q e leaf = sym (ap (λ c. c j q) (sym t.2.1.standing) ∙ t.2.2.standing j y q e leaf)
+      -- what is known after it of each local
+      flow_after : (j : ℕ) (y : TyId) (q : Path) → local_type c.now.fun j ≡ Some y → IsLeaf p.core.types y q
+          → d.init j q ≡ set_local (come_back x g l o o.way o.exact).init l none_set j q
+      flow_after j y q e leaf = sym (ap (λ c. c j q) (sym t.2.1.init) ∙ t.2.2.init j y q e leaf)
 
-      closed_agrees : (B : Cover) → ((j : ℕ) (y : TyId) (q : Path) → local_type c.now.fun j ≡ Some y → IsLeaf p.core.types y q → j ≢ l → (come_back x g l o o.way o.exact).standing j q ≡ covers_with B (mine j) q)
-          → (j : ℕ) (y : TyId) (q : Path) → local_type c.now.fun j ≡ Some y → IsLeaf p.core.types y q → d.standing j q ≡ covers_with B (mine j) q
-      closed_agrees B agree j y q e leaf = told_behind j y q e leaf ∙ ⊎_elim
-          (λ a. ap (λ b. cond b none_set ((come_back x g l o o.way o.exact).standing j) q) a.0 ∙ sym (ap (λ j. covers_with B (mine j) q) a.1 ∙ ap (λ c. c q) (set_same (set_at here.covers (mine o.base) B) (mine l) none_set)))
-          (λ a. ap (λ b. cond b none_set ((come_back x g l o o.way o.exact).standing j) q) a.0 ∙ agree j y q e leaf a.1) (eqb_tells j l)
+      closed_agrees : (B : InitMap) → ((j : ℕ) (y : TyId) (q : Path) → local_type c.now.fun j ≡ Some y → IsLeaf p.core.types y q → j ≢ l
+          → (come_back x g l o o.way o.exact).init j q ≡ maps_with B (mine j) q)
+          → (j : ℕ) (y : TyId) (q : Path) → local_type c.now.fun j ≡ Some y → IsLeaf p.core.types y q → d.init j q ≡ maps_with B (mine j) q
+      closed_agrees B agree j y q e leaf = flow_after j y q e leaf ∙ ⊎_elim
+          (λ a. ap (λ b. cond b none_set ((come_back x g l o o.way o.exact).init j) q) a.0
+          ∙ sym (ap (λ j. maps_with B (mine j) q) a.1 ∙ ap (λ c. c q) (set_same (set_at here.maps (mine o.base) B) (mine l) none_set)))
+          (λ a. ap (λ b. cond b none_set ((come_back x g l o o.way o.exact).init j) q) a.0 ∙ agree j y q e leaf a.1) (eqb_tells j l)
 
-      closed : (B : Cover) → BackOk p.core.types here.ty c.started here.covers (covers_with B) m (mine l) may.origin may.origin.way
-          → ((j : ℕ) (y : TyId) (q : Path) → local_type c.now.fun j ≡ Some y → IsLeaf p.core.types y q → j ≢ l → (come_back x g l o o.way o.exact).standing j q ≡ covers_with B (mine j) q)
+      closed : (B : InitMap) → BackOk p.core.types here.ty c.started here.maps (maps_with B) m (mine l) may.origin may.origin.way
+          → ((j : ℕ) (y : TyId) (q : Path) → local_type c.now.fun j ≡ Some y → IsLeaf p.core.types y q → j ≢ l
+          → (come_back x g l o o.way o.exact).init j q ≡ maps_with B (mine j) q)
           → Fine S c (close_copy m (mine l) (m.opened (mine l)))
       closed B back agree = subst (λ y. Sound (close_copy m (mine l) y) → Fine S c (close_copy m (mine l) y)) (sym may.opened)
-          (λ sound. stands (here_stands c _ number d (here_after (close_copy m (mine l) (Some may.origin)) d (covers_with B)
-          (holds_closed p.core.types here.ty c.started here.covers (covers_with B) here.promised m (mine l) may.origin here.holds here.sound may.opened may (sym (ap (λ k. k.act) tie.base))
-          (set_same (set_at here.covers (mine o.base) B) (mine l) none_set) (λ k n n'. other_covers B k n (λ e. n' (e ∙ sym tie.base))) back)
+          (λ sound. stands (here_stands c _ number d (here_after (close_copy m (mine l) (Some may.origin)) d (maps_with B)
+          (holds_closed p.core.types here.ty c.started here.maps (maps_with B) here.promised m (mine l) may.origin here.holds here.sound may.opened may
+          (sym (ap (λ k. k.act) tie.base))
+          (set_same (set_at here.maps (mine o.base) B) (mine l) none_set) (λ k n n'. other_maps B k n (λ e. n' (e ∙ sym tie.base))) back)
           sound
           (λ j y q e leaf. closed_agrees B agree j y q e leaf)
-          (λ k n. other_covers B k (λ z. n (ap (λ k. k.act) z)) (λ z. n (ap (λ k. k.act) z)))
+          (λ k n. other_maps B k (λ z. n (ap (λ k. k.act) z)) (λ z. n (ap (λ k. k.act) z)))
           (λ k n. set_other m.opened (mine l) None k (λ z. n (ap (λ k. k.act) z)))
           (λ j. subst (λ s. Tie p.core.types c.now.fun c.now.id j s (set_at m.opened (mine l) None (mine j))) (ended.status j)
           (⊎_elim
-          (λ y. subst (λ s. Tie p.core.types c.now.fun c.now.id j s (set_at m.opened (mine l) None (mine j))) (sym (ap (λ b. cond b Own (g.status j)) y.0)) (ap (λ j. set_at m.opened (mine l) None (mine j)) y.1 ∙ set_same m.opened (mine l) None))
           (λ y. subst (λ s. Tie p.core.types c.now.fun c.now.id j s (set_at m.opened (mine l) None (mine j))) (sym (ap (λ b. cond b Own (g.status j)) y.0))
-          (subst (Tie p.core.types c.now.fun c.now.id j (g.status j)) (sym (set_other m.opened (mine l) None (mine j) (λ z. y.1 (ap (λ k. k.local) z)))) (here.ties j))) (eqb_tells j l)))
+          (ap (λ j. set_at m.opened (mine l) None (mine j)) y.1 ∙ set_same m.opened (mine l) None))
+          (λ y. subst (λ s. Tie p.core.types c.now.fun c.now.id j s (set_at m.opened (mine l) None (mine j))) (sym (ap (λ b. cond b Own (g.status j)) y.0))
+          (subst (Tie p.core.types c.now.fun c.now.id j (g.status j)) (sym (set_other m.opened (mine l) None (mine j) (λ z. y.1 (ap (λ k. k.local) z))))
+          (here.ties j))) (eqb_tells j l)))
           (λ j lt. let r = here.params j lt in ⊎_elim (λ y. absurd (let z : Param r.0 ≡ Opened o = sym r.1 ∙ ap g.status y.1 ∙ st in cc))
           (λ y. (r.0, sym (ended.status j) ∙ ap (λ b. cond b Own (g.status j)) y.0 ∙ r.1)) (eqb_tells j l))
           (λ j v e q. ⊎_elim (λ y. absurd (let z : Own ≡ Bound v = sym (ap (λ b. cond b Own (g.status j)) y.0) ∙ ended.status j ∙ e in cc))
           (λ y. here.bound j v (sym (ap (λ b. cond b Own (g.status j)) y.0) ∙ ended.status j ∙ e) q) (eqb_tells j l))) left))
-          (sound_apply (op.Close (mine l)) m may here.sound)
+          (sound_apply (effect.Close (mine l)) m may here.sound)
 
-      -- what did not come back, or came back into a whole, leaves what was told
-      same_agrees : (g' : Face) → g'.standing ≡ g.standing → (j : ℕ) (y : TyId) (q : Path) → local_type c.now.fun j ≡ Some y → IsLeaf p.core.types y q → j ≢ l → g'.standing j q ≡ covers_with (here.covers (mine o.base)) (mine j) q
+      -- what did not come back, or came back into a whole, leaves what was known
+      same_agrees : (g' : FlowState) → g'.init ≡ g.init → (j : ℕ) (y : TyId) (q : Path) → local_type c.now.fun j ≡ Some y → IsLeaf p.core.types y q → j ≢ l
+          → g'.init j q ≡ maps_with (here.maps (mine o.base)) (mine j) q
       same_agrees g' same j y q e leaf n =
-          ap (λ c. c j q) same ∙ here.agrees j y q e leaf ∙ sym (ap (λ c. c q) (set_other (set_at here.covers (mine o.base) (here.covers (mine o.base))) (mine l) none_set (mine j) (λ z. n (ap (λ k. k.local) z)) ∙ same_set (mine j)))
+          ap (λ c. c j q) same ∙ here.agrees j y q e leaf
+          ∙ sym (ap (λ c. c q) (set_other (set_at here.maps (mine o.base) (here.maps (mine o.base))) (mine l) none_set (mine j)
+          (λ z. n (ap (λ k. k.local) z)) ∙ same_set (mine j)))
         where
-          same_set : (k : Key) → set_at here.covers (mine o.base) (here.covers (mine o.base)) k ≡ here.covers k
-          same_set k = at_key here.covers (mine o.base) (here.covers (mine o.base)) k (λ c. c ≡ here.covers k) (λ e. ap here.covers (sym e)) (λ n. refl)
+          same_set : (k : Key) → set_at here.maps (mine o.base) (here.maps (mine o.base)) k ≡ here.maps k
+          same_set k = at_key here.maps (mine o.base) (here.maps (mine o.base)) k (λ c. c ≡ here.maps k) (λ e. ap here.maps (sym e)) (λ n. refl)
 
       close_by : (w : Way) (b : Bool) → o.way ≡ w → o.exact ≡ b → Fine S c (close_copy m (mine l) (m.opened (mine l)))
-      close_by Reads b ew eb = closed (here.covers (mine o.base))
-          (subst (BackOk p.core.types here.ty c.started here.covers (covers_with (here.covers (mine o.base))) m (mine l) may.origin) (sym (tie.way ∙ ew)) (ap (covers_with (here.covers (mine o.base))) tie.base ∙ base_covers (here.covers (mine o.base)) ∙ ap here.covers (sym tie.base)))
-          (same_agrees (come_back x g l o o.way o.exact) (ap (λ w. (come_back x g l o w o.exact).standing) ew))
+      close_by Reads b ew eb = closed (here.maps (mine o.base))
+          (subst (BackOk p.core.types here.ty c.started here.maps (maps_with (here.maps (mine o.base))) m (mine l) may.origin) (sym (tie.way ∙ ew))
+          (ap (maps_with (here.maps (mine o.base))) tie.base ∙ base_maps (here.maps (mine o.base)) ∙ ap here.maps (sym tie.base)))
+          (same_agrees (come_back x g l o o.way o.exact) (ap (λ w. (come_back x g l o w o.exact).init) ew))
       close_by Writes true ew eb =
-          let type : type_at p.core.types (local_type c.now.fun o.base) o.path ≡ Some u = (let f = tie.type in subst (LoanType p.core.types c.now.fun l o) eb f) ∙ local in
+          let type : type_at p.core.types (local_type c.now.fun o.base) o.path ≡ Some u =
+          (let f = tie.type in subst (LoanType p.core.types c.now.fun l o) eb f) ∙ local in
           let path : may.origin.path ≡ o.path = let f = tie.ends in subst (λ b. EndsAt b o.path may.origin.path) eb f in
-          let B : Cover = with_cover o.path (here.covers (mine l)) (here.covers (mine o.base)) in
+          let B : InitMap = with_map o.path (here.maps (mine l)) (here.maps (mine o.base)) in
           closed B
-          (subst (BackOk p.core.types here.ty c.started here.covers (covers_with B) m (mine l) may.origin) (sym (tie.way ∙ ew)) (λ y is st.
-          subst (λ k. Sets p.core.types y (here.covers k) (m.value k) → Sets p.core.types y (covers_with B k) (put may.origin.path (m.value (mine l)) (m.value k))) (sym tie.base)
-          (λ st. subst (λ c. Sets p.core.types y c (put may.origin.path (m.value (mine l)) (m.value (mine o.base)))) (sym (base_covers B))
+          (subst (BackOk p.core.types here.ty c.started here.maps (maps_with B) m (mine l) may.origin) (sym (tie.way ∙ ew)) (λ y is st.
+          subst (λ k. Sets p.core.types y (here.maps k) (m.value k)
+          → Sets p.core.types y (maps_with B k) (put may.origin.path (m.value (mine l)) (m.value k))) (sym tie.base)
+          (λ st. subst (λ c. Sets p.core.types y c (put may.origin.path (m.value (mine l)) (m.value (mine o.base)))) (sym (base_maps B))
           (subst (λ r. IsThere r (m.value (mine o.base)) → Sets p.core.types y B (put r (m.value (mine l)) (m.value (mine o.base)))) (sym path)
-          (λ there. sets_exact p.core.types y u (here.covers (mine o.base)) (here.covers (mine l)) (m.value (mine o.base)) o.path (m.value (mine l)) st there
+          (λ there. sets_exact p.core.types y u (here.maps (mine o.base)) (here.maps (mine l)) (m.value (mine o.base)) o.path (m.value (mine l)) st there
           (ap (λ z. type_at p.core.types z o.path) (sym (sym (here.locals o.base) ∙ ap here.ty (sym tie.base) ∙ is)) ∙ type) sets_here) there_base)) st))
-          (λ j y q e leaf n. ap (λ w. (come_back x g l o w o.exact).standing j q) ew ∙ back_agrees type j y q e leaf n)
+          (λ j y q e leaf n. ap (λ w. (come_back x g l o w o.exact).init j q) ew ∙ back_agrees type j y q e leaf n)
         where
-          back_agrees : type_at p.core.types (local_type c.now.fun o.base) o.path ≡ Some u → (j : ℕ) (y : TyId) (q : Path) → local_type c.now.fun j ≡ Some y → IsLeaf p.core.types y q → j ≢ l
-              → (come_back x g l o Writes o.exact).standing j q ≡ covers_with (with_cover o.path (here.covers (mine l)) (here.covers (mine o.base))) (mine j) q
+          back_agrees : type_at p.core.types (local_type c.now.fun o.base) o.path ≡ Some u → (j : ℕ) (y : TyId) (q : Path) → local_type c.now.fun j ≡ Some y
+              → IsLeaf p.core.types y q → j ≢ l
+              → (come_back x g l o Writes o.exact).init j q ≡ maps_with (with_map o.path (here.maps (mine l)) (here.maps (mine o.base))) (mine j) q
           back_agrees type j y q e leaf n =
-              let B : Cover = with_cover o.path (here.covers (mine l)) (here.covers (mine o.base)) in
-              ap (λ b. (come_back x g l o Writes b).standing j q) eb ∙ ⊎_elim
+              let B : InitMap = with_map o.path (here.maps (mine l)) (here.maps (mine o.base)) in
+              ap (λ b. (come_back x g l o Writes b).init j q) eb ∙ ⊎_elim
               (λ a. let f : local_type c.now.fun o.base ≡ Some y = ap (local_type c.now.fun) (sym a.1) ∙ e in
-              ap (λ b. cond b (with_cover o.path (g.standing l) (g.standing o.base)) (g.standing j) q) a.0
-              ∙ with_same o.path (g.standing l) (here.covers (mine l)) (g.standing o.base) (here.covers (mine o.base)) q
-              (λ r is. here.agrees l u r local (leaf_back p.core.types y u o.path r (ap (λ z. type_at p.core.types z o.path) (sym f) ∙ type) (subst (IsLeaf p.core.types y) is leaf)))
+              ap (λ b. cond b (with_map o.path (g.init l) (g.init o.base)) (g.init j) q) a.0
+              ∙ with_same o.path (g.init l) (here.maps (mine l)) (g.init o.base) (here.maps (mine o.base)) q
+              (λ r is. here.agrees l u r local (leaf_back p.core.types y u o.path r (ap (λ z. type_at p.core.types z o.path) (sym f)
+              ∙ type) (subst (IsLeaf p.core.types y) is leaf)))
               (here.agrees o.base y q f leaf)
-              ∙ sym (ap (λ j. covers_with B (mine j) q) a.1 ∙ ap (λ c. c q) (base_covers B)))
-              (λ a. ap (λ b. cond b (with_cover o.path (g.standing l) (g.standing o.base)) (g.standing j) q) a.0 ∙ here.agrees j y q e leaf
-              ∙ sym (ap (λ c. c q) (other_covers B (mine j) (λ z. n (ap (λ k. k.local) z)) (λ z. a.1 (ap (λ k. k.local) z))))) (eqb_tells j o.base)
+              ∙ sym (ap (λ j. maps_with B (mine j) q) a.1 ∙ ap (λ c. c q) (base_maps B)))
+              (λ a. ap (λ b. cond b (with_map o.path (g.init l) (g.init o.base)) (g.init j) q) a.0 ∙ here.agrees j y q e leaf
+              ∙ sym (ap (λ c. c q) (other_maps B (mine j) (λ z. n (ap (λ k. k.local) z)) (λ z. a.1 (ap (λ k. k.local) z))))) (eqb_tells j o.base)
       close_by Writes false ew eb =
-          let type : (a e : TyId) × (type_at p.core.types (local_type c.now.fun o.base) o.path ≡ Some a) × (form p.core.types a ≡ Arrays e) = let f = tie.type in subst (LoanType p.core.types c.now.fun l o) eb f in
-          let path : (j : ℕ) × (r : Path) × (may.origin.path ≡ o.path ++ j ∷ r) = let f = tie.ends in subst (λ b. EndsAt b o.path may.origin.path) eb f in
+          let type : (a e : TyId) × (type_at p.core.types (local_type c.now.fun o.base) o.path ≡ Some a) × (form p.core.types a ≡ Arrays e) = let f =
+          tie.type in subst (LoanType p.core.types c.now.fun l o) eb f in
+          let path : (j : Selector) × (r : Path) × (may.origin.path ≡ o.path ++ j ∷ r) = let f = tie.ends in
+          subst (λ b. EndsAt b o.path may.origin.path) eb f in
           let back : IsLocalSet x g l = let f = t.1 in subst (ComesBack x g l Writes) eb (subst (λ w. ComesBack x g l w o.exact) ew f) in
-          closed (here.covers (mine o.base))
-          (subst (BackOk p.core.types here.ty c.started here.covers (covers_with (here.covers (mine o.base))) m (mine l) may.origin) (sym (tie.way ∙ ew)) (λ y is st.
-          subst (λ k. Sets p.core.types y (here.covers k) (m.value k) → Sets p.core.types y (covers_with (here.covers (mine o.base)) k) (put may.origin.path (m.value (mine l)) (m.value k))) (sym tie.base)
-          (λ st. subst (λ c. Sets p.core.types y c (put may.origin.path (m.value (mine l)) (m.value (mine o.base)))) (sym (base_covers (here.covers (mine o.base))))
-          (subst (λ r. IsThere r (m.value (mine o.base)) → Sets p.core.types y (here.covers (mine o.base)) (put r (m.value (mine l)) (m.value (mine o.base)))) (sym path.2)
-          (λ there. sets_inner p.core.types y type.0 type.1 (here.covers (mine o.base)) (m.value (mine o.base)) o.path path.0 path.1 (m.value (mine l)) st there
-          (ap (λ z. type_at p.core.types z o.path) (sym (sym (here.locals o.base) ∙ ap here.ty (sym tie.base) ∙ is)) ∙ type.2) type.3 (whole_local l u local back unaway)) there_base)) st))
-          (same_agrees (come_back x g l o o.way o.exact) (λ i. (come_back x g l o (ew i) (eb i)).standing))
+          closed (here.maps (mine o.base))
+          (subst (BackOk p.core.types here.ty c.started here.maps (maps_with (here.maps (mine o.base))) m (mine l) may.origin) (sym (tie.way ∙ ew)) (λ y is st.
+          subst (λ k. Sets p.core.types y (here.maps k) (m.value k)
+          → Sets p.core.types y (maps_with (here.maps (mine o.base)) k) (put may.origin.path (m.value (mine l)) (m.value k))) (sym tie.base)
+          (λ st. subst (λ c. Sets p.core.types y c (put may.origin.path (m.value (mine l)) (m.value (mine o.base))))
+          (sym (base_maps (here.maps (mine o.base))))
+          (subst (λ r. IsThere r (m.value (mine o.base)) → Sets p.core.types y (here.maps (mine o.base)) (put r (m.value (mine l)) (m.value (mine o.base))))
+          (sym path.2)
+          (λ there. sets_inner p.core.types y type.0 type.1 (here.maps (mine o.base)) (m.value (mine o.base)) o.path path.0 path.1 (m.value (mine l)) st there
+          (ap (λ z. type_at p.core.types z o.path) (sym (sym (here.locals o.base) ∙ ap here.ty (sym tie.base) ∙ is))
+          ∙ type.2) type.3 (whole_local l u local back unaway)) there_base)) st))
+          (same_agrees (come_back x g l o o.way o.exact) (λ i. (come_back x g l o (ew i) (eb i)).init))
 
       pub close_fine : Fine S c (close_copy m (mine l) (m.opened (mine l)))
       close_fine = close_by o.way o.exact refl refl
 
-    pub close_set : (l : ℕ) (o : Loan) (u : TyId) (d : Face) (y : Option Activation) → local_type c.now.fun l ≡ Some u → g.status l ≡ Opened o → Closes x g l o d → Left d → Sure S (close_of c l y) m
+    pub close_set : (l : ℕ) (o : Loan) (u : TyId) (d : FlowState) (y : Option Activation) → local_type c.now.fun l ≡ Some u → g.status l ≡ Opened o
+        → Closes x g l o d → Left d → Sure S (close_of c l y) m
     close_set l o u d (Some b) local st t left = λ calm. over NotOpened refl (λ e. absurd (cc))
-    close_set l o u d None local st t left = by (nat_lt l (length c.now.fun.lent))
+    close_set l o u d None local st t left = by (nat_lt l (length (lent_types c.now.fun)))
       where
-        by : (b : Bool) → Sure S (cond b (stop c NotOpened) (Tell (op.Close (key c l)) (Next c))) m
+        by : (b : Bool) → Sure S (cond b (stop c NotOpened) (Perform (effect.Close (key c l)) (Return c))) m
         by true calm = over NotOpened refl (λ e. absurd (cc))
         by false calm = (tt, close_fine l o u local st d t left calm.0)

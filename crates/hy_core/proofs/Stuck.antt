@@ -1,26 +1,35 @@
 -- A core of the right shape never gets stuck: each activation has what is left of its body in shape, each local a value of its
 -- type, and who waits can take what it gets.
-use Rattle.std.proofs.Common.{◌≡◌, ◌≢◌, ◌⊎◌, ⊎_elim, inl, inr, ℕ, zero, suc, ◌+◌, ◌<◌, ◌≤◌, ◌==◌, Bool, true, false, cond, nat_lt, ◌&&◌, List, [], ◌∷◌, ◌++◌, length, Option, Some, None, slice_get, refl, sym, ap, ◌∙◌, subst, arith}
+use Rattle.std.proofs.Common.{◌≡◌, ◌≢◌, ◌⊎◌, ⊎_elim, inl, inr, ℕ, zero, suc, ◌+◌, ◌<◌, ◌≤◌, ◌==◌, Bool, true, false, cond, nat_lt, ◌&&◌, List, [], ◌∷◌}
+use Rattle.std.proofs.Common.{◌++◌, length, Option, Some, None, slice_get, refl, sym, ap, ◌∙◌, subst, arith}
 use Rattle.std.proofs.lemmas.Bool.Decides.{eqb_tells}
 use Rattle.hy_base.specs.declared.run.End.TheVariants as end
 use Rattle.hy_types.specs.declared.kinds.TyId.{TyId}
 use Rattle.hy_types.specs.Types.{declared}
-use Rattle.hy_core.specs.Plain.{Place, Done, Then, Stmt, Built, Set, Lend, Close, Move, Copy, Drop, Call, Project, Slide, Yield, If, While, Break, Continue, Leave, Fun, Deinit}
-use Rattle.hy_core.specs.Values.{Val, Unset, Number, Truth, Tuple, Product, Array, Vals, No, And, nth, get, all_whole}
+use Rattle.hy_core.specs.Plain.{Place, Done, Then, Stmt, Built, Set, Lend, Close, Move, Copy, Drop, Call, Project, Slide, Yield, If, While, Break, Continue}
+use Rattle.hy_core.specs.Plain.{Leave, Fun, Deinit, is_ramp, lent_types, types_of}
+use Rattle.hy_core.specs.Values.{Val, Unset, Number, Truth, Tuple, Product, Array, Vals, No, And, nth, get, all_whole, Selector, PartAt}
 use Rattle.hy_core.specs.Memory.{Key, Spot, whole, below, Writes, Copies, copying, no_copies}
-use Rattle.hy_core.specs.Runs as op
-use Rattle.hy_core.specs.Runs.{Talk, Ask, Look, Tell, Next, interpret, steps}
+use Rattle.hy_core.specs.Runs as effect
+use Rattle.hy_core.specs.Runs.{Interaction, Fetch, Inspect, Perform, Return, interpret, steps}
 use Rattle.hy_core.specs.Operators.{same_flags}
-use Rattle.hy_core.specs.Control.{Form, Flags, Products, Unknown, form, local_type, Deed, Body, EachOf, Element, Task, Do, Value, PartsOf, Unsets, Work, Idle, Rest, Loop, Test, Drops, Dest, Opens, Nowhere, Activation, Nap, Halt, Ends, Stuck, NotOpened, Control, Stage, Deinitialises, GivesUp, Setting, stop, with_work, key, count_one, with_some, turn, with_flag, spot, take, write, read, Aim, ToRead, ToWrite, ToDrop, sleeper_of, wake}
+use Rattle.hy_core.specs.Control.{Form, Flags, Products, Unknown, form, local_type, Deed, Body, EachOf, Element, Task, Do, Value, PartsOf, Unsets, Work}
+use Rattle.hy_core.specs.Control.{Idle, Rest, Loop, Test, Drops, Dest, Opens, Nowhere, Activation, Nap, Halt, Ends, Stuck, NotOpened, Control, Stage}
+use Rattle.hy_core.specs.Control.{Deinitialises, GivesUp, Setting, stop, with_work, key, count_one, with_some, turn, with_flag, spot, take, write, read}
+use Rattle.hy_core.specs.Control.{Aim, ToRead, ToWrite, ToDrop, sleeper_of, wake}
 use Rattle.hy_core.specs.Control as control
-use Rattle.hy_core.specs.Statements.{charge, begun, hand_all, move_all, enter, close_all, back, yield_to, slide_of, close_of, is_counted, count_if, way, aim, deinit_of, is_there, deeds, deeds_from, part_deeds, elements, doing, deinit_body, does_deed, first_deed, does_tasks, drop, broken, continued, does, tested, goes_on, talk_of, talk, begins_with, start}
+use Rattle.hy_core.specs.Statements.{charge, begun, hand_all, move_all, enter, close_all, back, yield_to, slide_of, close_of, is_counted, count_if, way}
+use Rattle.hy_core.specs.Statements.{aim, deinit_of, is_there, deeds, deeds_from, part_deeds, elements, doing, deinit_body, does_deed, first_deed}
+use Rattle.hy_core.specs.Statements.{does_tasks, drop, broken, continued, does, tested, goes_on, interaction_of, interaction, begins_with, start}
 use Rattle.hy_core.specs.Meaning.{setting}
 use Rattle.hy_core.specs.Typing.{all}
 use Rattle.hy_core.specs.Shaped.{Goes, HasForm, IsOf, AreOf, LocalsAre, Leaves, ShapedAll, IsShaped, IsShapedFun, IsMain, IsDeinit, Shaped}
+use Rattle.hy_core.specs.Ranges.{IntegersStayInRange}
 use Rattle.hy_core.specs.Ready.{ShapedIsNeverStuck}
 use Rattle.hy_core.proofs.Keys.{at_key}
 use Rattle.hy_core.proofs.Typed.{form_at, form_on, form_append, declared_with, Fits, fits_get, IsTyped, typed_read, typed_store, typed_lend, typed_close}
-use Rattle.hy_core.proofs.TypedTalks.{Fine, over, stands, Good, good_next, IsLocal, good_some, good_turn, good_flag, Quits, good_spot, good_read, good_take, good_write}
+use Rattle.hy_core.proofs.TypedWalks.{Fine, over, stands, Good, good_next, IsLocal, good_some, good_turn, good_flag, Quits, good_spot, good_read, good_take}
+use Rattle.hy_core.proofs.TypedWalks.{good_write}
 use Rattle.hy_core.proofs.TypedOperations.{good_built, good_constant, good_charged}
 use Rattle.hy_core.proofs.Paths.{WorkGoes, BreakGoes, AgainGoes, head_goes, pass_goes, break_goes, again_goes}
 
@@ -39,7 +48,7 @@ IsOpening (control.Result place) = ⊥
 IsOpening (Opens l) = Unit {0}
 IsOpening Nowhere = ⊥
 
--- a ramp opens a local until its `Yield`, and goes nowhere behind it
+-- a ramp opens a local until its `Yield`, and goes nowhere after it
 abbrev DestOk : (ramp yielded : Bool) → Dest → Type 0
 DestOk false false d = IsNoOpening d
 DestOk false true d = ⊥
@@ -89,8 +98,8 @@ module _ (p : Setting) where
     locals : (l : ℕ) → forms (at a.id l) ≡ form_at p.core.types (local_type fun l)
     work : WorkOk forms n fun a.work
     yielded : Bool
-    paths : WorkGoes fun.ramp a.work yielded
-    dest : DestOk fun.ramp yielded a.dest
+    paths : WorkGoes (is_ramp fun) a.work yielded
+    dest : DestOk (is_ramp fun) yielded a.dest
 
   abbrev CallersOk : (Key → Form) → ℕ → Dest → TyId → List Activation → Type 0
   CallersOk forms n dest t [] = IsNoOpening dest
@@ -101,7 +110,8 @@ module _ (p : Setting) where
   NapsOk forms n (x ∷ xs) = Frame forms n x.act × (x.act.dest ≡ Nowhere) × NapsOk forms n xs
 
   -- all but what is left of the running activation, which runs f; k have been started, and n have locals
-  record Base (forms : Key → Form) (n k : ℕ) (f : Fun) (started id : ℕ) (g : Fun) (dest : Dest) (callers : List Activation) (asleep : List Nap) (halt : Option Halt) : Type 0 where
+  record Base (forms : Key → Form) (n k : ℕ) (f : Fun) (started id : ℕ) (g : Fun) (dest : Dest) (callers : List Activation) (asleep : List Nap)
+      (halt : Option Halt) : Type 0 where
     none : halt ≡ None
     count : started ≡ k
     same : g ≡ f
@@ -115,8 +125,8 @@ module _ (p : Setting) where
 
   record Goes_on (forms : Key → Form) (n : ℕ) (f : Fun) (y : Bool) (w : Work) (dest : Dest) : Type 0 where
     work : WorkOk forms n f w
-    paths : WorkGoes f.ramp w y
-    leads : DestOk f.ramp y dest
+    paths : WorkGoes (is_ramp f) w y
+    flows : DestOk (is_ramp f) y dest
 
   record Stands (c : Control) (m : Copies) : Type 0 where
     forms : Key → Form
@@ -159,7 +169,8 @@ module _ (p : Setting) where
     work_keep f (Test head on body w) h = (h.0, h.1, h.2, work_keep f w h.3)
     work_keep f (Drops ts w) h = (tasks_keep ts h.0, work_keep f w h.1)
 
-    locals_keep : (a : ℕ) (f : Fun) → a < n → ((l : ℕ) → forms (at a l) ≡ form_at p.core.types (local_type f l)) → (l : ℕ) → forms' (at a l) ≡ form_at p.core.types (local_type f l)
+    locals_keep : (a : ℕ) (f : Fun) → a < n → ((l : ℕ) → forms (at a l) ≡ form_at p.core.types (local_type f l)) → (l : ℕ)
+        → forms' (at a l) ≡ form_at p.core.types (local_type f l)
     locals_keep a f lt h l = same (at a l) lt ∙ h l
 
     frame_keep : (a : Activation) → Frame forms n a → Frame forms' n' a
@@ -201,7 +212,9 @@ module _ (p : Setting) where
 
   module _ (forms : Key → Form) (n : ℕ) (g : Fun) where
     old_forms : (k : Key) → k.act < n → with_forms forms n g k ≡ forms k
-    old_forms k lt = ⊎_elim (λ e. let q : k.act ≡ n = e.1 in absurd (omega arith)) (λ e. ap (λ b. cond b (form_at p.core.types (local_type g k.local)) (forms k)) e.0) (eqb_tells k.act n)
+    old_forms k lt =
+        ⊎_elim (λ e. let q : k.act ≡ n = e.1 in absurd (omega arith)) (λ e. ap (λ b. cond b (form_at p.core.types (local_type g k.local)) (forms k)) e.0)
+        (eqb_tells k.act n)
 
     new_forms : (l : ℕ) → with_forms forms n g (at n l) ≡ form_at p.core.types (local_type g l)
     new_forms l = ⊎_elim (λ e. ap (λ b. cond b (form_at p.core.types (local_type g l)) (forms (at n l))) e.0) (λ e. absurd (e.1 refl)) (eqb_tells n n)
@@ -209,7 +222,8 @@ module _ (p : Setting) where
     typed_new : (m : Copies) → IsTyped p.core.types forms n m → IsTyped p.core.types (with_forms forms n g) (suc n) m
     typed_new m h = record {
       value = λ k. ⊎_elim (λ e. let q : k.act ≡ n = e.1 in subst (Fits p.core.types (with_forms forms n g k)) (sym (h.fresh k (omega arith))) tt)
-          (λ e. subst (λ b. Fits p.core.types (cond b (form_at p.core.types (local_type g k.local)) (forms k)) (m.value k)) (sym e.0) (h.value k)) (eqb_tells k.act n);
+          (λ e. subst (λ b. Fits p.core.types (cond b (form_at p.core.types (local_type g k.local)) (forms k)) (m.value k)) (sym e.0) (h.value k))
+          (eqb_tells k.act n);
       origin = λ k o e. let a = h.origin k o e in let lk = a.0 in let lb = a.1 in
           (omega arith, omega arith, old_forms k lk ∙ a.2 ∙ ap (λ f. form_on p.core.types f o.path) (sym (old_forms o.base lb)));
       fresh = λ k le. h.fresh k (omega arith);
@@ -234,30 +248,35 @@ module _ (p : Setting) where
   behind [] ys j = let z : 0 + j ≡ j = omega arith in ap (slice_get ys) z
   behind (x ∷ xs) ys j = let z : suc (length xs) + j ≡ suc (length xs + j) = omega arith in ap (slice_get (x ∷ (xs ++ ys))) z ∙ behind xs ys j
 
-  module _ (forms : Key → Form) (n : ℕ) (f : Fun) (Q : Control → Type 0) (counted : (c : Control) → Q c → Q (count_one c)) (local : (c : Control) → Q c → IsLocal p.core.types forms n f c) where
+  module _ (forms : Key → Form) (n : ℕ) (f : Fun) (Q : Control → Type 0) (counted : (c : Control) → Q c → Q (count_one c)) (local : (c : Control) → Q c
+      → IsLocal p.core.types forms n f c) where
     abbrev Typed : Copies → Type 0
     Typed m = IsTyped p.core.types forms n m
 
-    abbrev Always : (Control → Talk Control) → Type 0
+    abbrev Always : (Control → Interaction Control) → Type 0
     Always go = (c : Control) (m : Copies) → Q c → Typed m → Good Stands (go c) m
 
-    moves : (a : ℕ) (go : Control → Talk Control) → a < n → Always go → (xs : List Place) (us : List TyId) (i : ℕ) → AreOf p.core f us xs → LocalsFrom forms a i us → Always (λ c. move_all p c a i xs us go)
+    moves : (a : ℕ) (go : Control → Interaction Control) → a < n → Always go → (xs : List Place) (us : List TyId) (i : ℕ) → AreOf p.core f us xs
+        → LocalsFrom forms a i us → Always (λ c. move_all p c a i xs us go)
     moves a go lt next [] [] i is from = next
     moves a go lt next [] (u ∷ us) i is from = absurd is
     moves a go lt next (x ∷ xs) [] i is from = absurd is
     moves a go lt next (x ∷ xs) (u ∷ us) i is from = λ c m q h. good_take p Stands forms n f Q counted local x u _ is.0 (λ c m v q h fits.
-        moves a go lt next xs us (suc i) is.1 from.1 c _ q (typed_store p.core.types forms n m h (whole (at a i)) v lt (subst (λ y. Fits p.core.types y v) (sym from.0) fits))) c m q h
+        moves a go lt next xs us (suc i) is.1 from.1 c _ q (typed_store p.core.types forms n m h (whole (at a i)) v lt
+        (subst (λ y. Fits p.core.types y v) (sym from.0) fits))) c m q h
 
-    hands : (a : ℕ) (t : Talk Control) → a < n → (c : Control) → Q c → ((m : Copies) → Typed m → Good Stands t m)
-        → (ls : List ℕ) (us : List TyId) (i : ℕ) → LocalsAre p.core f us ls → LocalsFrom forms a i us → (m : Copies) → Typed m → Good Stands (hand_all c a i ls us t) m
+    hands : (a : ℕ) (t : Interaction Control) → a < n → (c : Control) → Q c → ((m : Copies) → Typed m → Good Stands t m)
+        → (ls : List ℕ) (us : List TyId) (i : ℕ) → LocalsAre p.core f us ls → LocalsFrom forms a i us → (m : Copies) → Typed m
+        → Good Stands (hand_all c a i ls us t) m
     hands a t lt c q next [] [] i is from m h = next m h
     hands a t lt c q next [] (u ∷ us) i is from m h = absurd is
     hands a t lt c q next (l ∷ ls) [] i is from m h = absurd is
     hands a t lt c q next (l ∷ ls) (u ∷ us) i is from m h =
         let lo = local c q in
-        hands a t lt c q next ls us (suc i) is.1 from.1 _ (typed_lend p.core.types forms n m h (at a i) (whole (key c l)) _ lt lo.below (from.0 ∙ sym (lo.locals l ∙ ap (form_at p.core.types) is.0)))
+        hands a t lt c q next ls us (suc i) is.1 from.1 _ (typed_lend p.core.types forms n m h (at a i) (whole (key c l)) _ lt lo.below (from.0
+        ∙ sym (lo.locals l ∙ ap (form_at p.core.types) is.0)))
 
-  closes : (forms : Key → Form) (n : ℕ) (c : Control) (t : Talk Control) → ((m : Copies) → IsTyped p.core.types forms n m → Good Stands t m)
+  closes : (forms : Key → Form) (n : ℕ) (c : Control) (t : Interaction Control) → ((m : Copies) → IsTyped p.core.types forms n m → Good Stands t m)
       → (i : ℕ) (m : Copies) → IsTyped p.core.types forms n m → Good Stands (close_all c i t) m
   closes forms n c t next zero m h = next m h
   closes forms n c t next (suc i) m h = closes forms n c t next i _ (typed_close p.core.types forms n m h (key c i))
@@ -283,28 +302,43 @@ module _ (p : Setting) where
 
     -- the frame of the activation once it waits
     q_frame : (c : Control) → Q c → Frame forms n c.now
-    q_frame c q = record { fun = f; same = q.base.same; below = q.base.below; locals = q.base.locals; work = q.on.work; yielded = y; paths = q.on.paths; dest = q.on.leads }
+    q_frame c q = record {
+      fun = f;
+      same = q.base.same;
+      below = q.base.below;
+      locals = q.base.locals;
+      work = q.on.work;
+      yielded = y;
+      paths =
+          q.on.paths;
+      dest = q.on.flows;
+    }
 
   module _ (forms : Key → Form) (n : ℕ) (f : Fun) (y : Bool) where
     q_done : (c : Control) (m : Copies) → Q forms n n f y c → IsTyped p.core.types forms n m → Fine Stands c m
     q_done c m q h = stands (record { forms = forms; count = n; fun = f; base = q.base; yielded = y; on = q.on; typed = h })
 
     -- goes on with other work
-    goes : (c : Control) (m : Copies) (w : Work) → BaseOf forms n n f c → Goes_on forms n f y w c.now.dest → IsTyped p.core.types forms n m → Fine Stands (with_work c w) m
+    goes : (c : Control) (m : Copies) (w : Work) → BaseOf forms n n f c → Goes_on forms n f y w c.now.dest → IsTyped p.core.types forms n m
+        → Fine Stands (with_work c w) m
     goes c m w base on h = stands (record { forms = forms; count = n; fun = f; base = base; yielded = y; on = on; typed = h })
 
-    on_keep : (forms' : Key → Form) (n' : ℕ) (le : n ≤ n') (same : (k : Key) → k.act < n → forms' k ≡ forms k) (w : Work) (dest : Dest) → Goes_on forms n f y w dest → Goes_on forms' n' f y w dest
-    on_keep forms' n' le same w dest h = record { work = work_keep forms forms' n n' le same f w h.work; paths = h.paths; leads = h.leads }
+    on_keep : (forms' : Key → Form) (n' : ℕ) (le : n ≤ n') (same : (k : Key) → k.act < n → forms' k ≡ forms k) (w : Work) (dest : Dest)
+        → Goes_on forms n f y w dest → Goes_on forms' n' f y w dest
+    on_keep forms' n' le same w dest h = record { work = work_keep forms forms' n n' le same f w h.work; paths = h.paths; flows = h.flows }
 
-    q_keep : (c : Control) (forms' : Key → Form) (n' : ℕ) (le : n ≤ n') (same : (k : Key) → k.act < n → forms' k ≡ forms k) → Q forms n n f y c → Q forms' n' n f y c
+    q_keep : (c : Control) (forms' : Key → Form) (n' : ℕ) (le : n ≤ n') (same : (k : Key) → k.act < n → forms' k ≡ forms k) → Q forms n n f y c
+        → Q forms' n' n f y c
     q_keep c forms' n' le same q = record {
       base = base_keep forms forms' n n' le same n f c.started c.now.id c.now.fun c.now.dest c.callers c.asleep c.halt q.base;
       on = on_keep forms' n' le same c.now.work c.now.dest q.on;
     }
 
   module _ (sh : Shaped p.core) where
-    begins : (forms : Key → Form) (n : ℕ) (f : Fun) (y : Bool) (c : Control) (m : Copies) (g : Fun) (dest : Dest) → IsShapedFun p.core g → Q forms (suc n) n f y c
-        → Awaits f dest g.result → DestOk g.ramp false dest → ((l : ℕ) → forms (at n l) ≡ form_at p.core.types (local_type g l)) → IsTyped p.core.types forms (suc n) m → Fine Stands (begun c g dest) m
+    begins : (forms : Key → Form) (n : ℕ) (f : Fun) (y : Bool) (c : Control) (m : Copies) (g : Fun) (dest : Dest) → IsShapedFun p.core g
+        → Q forms (suc n) n f y c
+        → Awaits f dest g.result → DestOk (is_ramp g) false dest → ((l : ℕ) → forms (at n l) ≡ form_at p.core.types (local_type g l))
+        → IsTyped p.core.types forms (suc n) m → Fine Stands (begun c g dest) m
     unfolding q_frame
     begins forms n f y c m g dest shaped q awaits d locals h = stands (record {
       forms = forms;
@@ -320,7 +354,7 @@ module _ (p : Setting) where
         naps = q.base.naps;
       };
       yielded = false;
-      on = record { work = (shaped.body, tt); paths = shaped.paths; leads = d };
+      on = record { work = (shaped.body, tt); paths = shaped.paths; flows = d };
       typed = h;
     })
 
@@ -329,13 +363,17 @@ module _ (p : Setting) where
       same_same true = refl
       same_same false = refl
 
-      good_enter : (c : Control) (m : Copies) (ramp : Bool) (k : ℕ) (lent : List ℕ) (owned : List Place) (dest : Dest) (g : Fun) → slice_get p.core.funs k ≡ Some g → g.ramp ≡ ramp
-          → LocalsAre p.core f g.lent lent → AreOf p.core f g.owned owned → Awaits f dest g.result → DestOk ramp false dest → Q forms n n f y c → IsTyped p.core.types forms n m
+      good_enter : (c : Control) (m : Copies) (ramp : Bool) (k : ℕ) (lent : List ℕ) (owned : List Place) (dest : Dest) (g : Fun)
+          → slice_get p.core.funs k ≡ Some g → (is_ramp g) ≡ ramp
+          → LocalsAre p.core f (lent_types g) lent → AreOf p.core f g.owned owned → Awaits f dest g.result → DestOk ramp false dest → Q forms n n f y c
+          → IsTyped p.core.types forms n m
           → Good Stands (enter p c ramp (slice_get p.core.funs k) lent owned dest) m
-      good_enter c m ramp k lent owned dest g found is_ramp are_lent are_owned awaits d q h =
+      good_enter c m ramp k lent owned dest g found same_kind are_lent are_owned awaits d q h =
           good_some p Stands c (slice_get p.core.funs k) _ m g found (subst (λ b. Good Stands (cond b inner (stop c Stuck)) m) (sym is_same)
-          (moves new (suc n) f Q' (q_count new (suc n) n f y) (q_local new (suc n) n f y) c.started _ started then owned g.owned (length g.lent) are_owned
-          (locals_from new c.started (g.lent ++ (g.owned ++ g.locals)) g.owned g.locals (length g.lent) (λ l. ap (λ k. new (at k l)) q.base.count ∙ new_forms forms n g l) (behind g.lent (g.owned ++ g.locals)))
+          (moves new (suc n) f Q' (q_count new (suc n) n f y) (q_local new (suc n) n f y) c.started _ started then owned g.owned (length (lent_types g))
+          are_owned
+          (locals_from new c.started ((lent_types g) ++ (g.owned ++ g.locals)) g.owned g.locals (length (lent_types g))
+          (λ l. ap (λ k. new (at k l)) q.base.count ∙ new_forms forms n g l) (behind (lent_types g) (g.owned ++ g.locals)))
           c m (q_keep forms n f y c new (suc n) (omega arith) (old_forms forms n g) q) (typed_new forms n g m h)))
         where
           new : Key → Form
@@ -344,20 +382,26 @@ module _ (p : Setting) where
           Q' : Control → Type 0
           Q' = Q new (suc n) n f y
 
-          inner : Talk Control
-          inner = move_all p c c.started (length g.lent) owned g.owned (λ c. hand_all c c.started zero lent g.lent (turn c c.turns (λ c. Next (begun c g dest))))
+          inner : Interaction Control
+          inner = move_all p c c.started (length (lent_types g)) owned g.owned
+              (λ c. hand_all c c.started zero lent (lent_types g) (turn c c.turns (λ c. Return (begun c g dest))))
 
-          is_same : same_flags g.ramp ramp ≡ true
-          is_same = ap (same_flags g.ramp) (sym is_ramp) ∙ same_same g.ramp
+          is_same : same_flags (is_ramp g) ramp ≡ true
+          is_same = ap (same_flags (is_ramp g)) (sym same_kind) ∙ same_same (is_ramp g)
 
           started : c.started < suc n
           started = let e : c.started ≡ n = q.base.count in omega arith
 
-          then : (c : Control) (m : Copies) → Q' c → IsTyped p.core.types new (suc n) m → Good Stands (hand_all c c.started zero lent g.lent (turn c c.turns (λ c. Next (begun c g dest)))) m
-          then c m q h = hands new (suc n) f Q' (q_count new (suc n) n f y) (q_local new (suc n) n f y) c.started _ (let e : c.started ≡ n = q.base.count in omega arith) c q
-              (λ m h. good_turn p Stands c c.turns _ m (λ j. begins new n f y (record c { turns = j }) m g dest (sh.funs k g found) q awaits (subst (λ r. DestOk r false dest) (sym is_ramp) d) (new_forms forms n g) h))
-              lent g.lent zero are_lent
-              (locals_from new c.started (g.lent ++ (g.owned ++ g.locals)) g.lent (g.owned ++ g.locals) zero (λ l. ap (λ k. new (at k l)) q.base.count ∙ new_forms forms n g l) (λ j. let z : 0 + j ≡ j = omega arith in ap (slice_get (g.lent ++ (g.owned ++ g.locals))) z)) m h
+          then : (c : Control) (m : Copies) → Q' c → IsTyped p.core.types new (suc n) m
+              → Good Stands (hand_all c c.started zero lent (lent_types g) (turn c c.turns (λ c. Return (begun c g dest)))) m
+          then c m q h = hands new (suc n) f Q' (q_count new (suc n) n f y) (q_local new (suc n) n f y) c.started _ (let e : c.started ≡ n = q.base.count in
+              omega arith) c q
+              (λ m h. good_turn p Stands c c.turns _ m (λ j. begins new n f y (record c { turns = j }) m g dest (sh.funs k g found) q awaits
+              (subst (λ r. DestOk r false dest) (sym same_kind) d) (new_forms forms n g) h))
+              lent (lent_types g) zero are_lent
+              (locals_from new c.started ((lent_types g) ++ (g.owned ++ g.locals)) (lent_types g) (g.owned ++ g.locals) zero
+              (λ l. ap (λ k. new (at k l)) q.base.count ∙ new_forms forms n g l) (λ j. let z : 0 + j ≡ j = omega arith in
+              ap (slice_get ((lent_types g) ++ (g.owned ++ g.locals))) z)) m h
 
     -- DEINITIALISING
 
@@ -366,44 +410,58 @@ module _ (p : Setting) where
       all_append [] ys a b = b
       all_append (x ∷ xs) ys a b = (a.0, all_append xs ys a.1 b)
 
-      on_part : (s : Spot) (v : Val) (i : ℕ) → Fits p.core.types (form_on p.core.types (forms s.key) s.path) v → Fits p.core.types (form_on p.core.types (forms s.key) (s.path ++ i ∷ [])) (get (i ∷ []) v)
-      on_part s v i h = subst (λ f. Fits p.core.types f (get (i ∷ []) v)) (sym (form_append p.core.types (forms s.key) s.path (i ∷ []))) (fits_get p.core.types _ (i ∷ []) v h)
+      on_part : (s : Spot) (v : Val) (i : Selector) → Fits p.core.types (form_on p.core.types (forms s.key) s.path) v
+          → Fits p.core.types (form_on p.core.types (forms s.key) (s.path ++ i ∷ [])) (get (i ∷ []) v)
+      on_part s v i h =
+          subst (λ f. Fits p.core.types f (get (i ∷ []) v)) (sym (form_append p.core.types (forms s.key) s.path (i ∷ [])))
+          (fits_get p.core.types _ (i ∷ []) v h)
 
       -- the parts from the one with that number on
       abbrev PartsFit : Spot → ℕ → Vals → Type 0
-      PartsFit s i vs = (j : ℕ) → Fits p.core.types (form_on p.core.types (forms s.key) (s.path ++ (i + j) ∷ [])) (nth j vs)
+      PartsFit s i vs = (j : ℕ) → Fits p.core.types (form_on p.core.types (forms s.key) (s.path ++ PartAt (i + j) ∷ [])) (nth j vs)
 
-      parts_first : (s : Spot) (vs : Vals) → ((j : ℕ) → Fits p.core.types (form_on p.core.types (forms s.key) (s.path ++ j ∷ [])) (nth j vs)) → PartsFit s zero vs
-      parts_first s vs h j = let z : 0 + j ≡ j = omega arith in subst (λ k. Fits p.core.types (form_on p.core.types (forms s.key) (s.path ++ k ∷ [])) (nth j vs)) (sym z) (h j)
+      parts_first : (s : Spot) (vs : Vals) → ((j : ℕ) → Fits p.core.types (form_on p.core.types (forms s.key) (s.path ++ PartAt j ∷ [])) (nth j vs))
+          → PartsFit s zero vs
+      parts_first s vs h j = let z : 0 + j ≡ j = omega arith in
+          subst (λ k. Fits p.core.types (form_on p.core.types (forms s.key) (s.path ++ PartAt k ∷ [])) (nth j vs)) (sym z) (h j)
 
-      product_ok : (s : Spot) (d : ℕ) (parts : List TyId) → s.key.act < n → form_on p.core.types (forms s.key) s.path ≡ Products d parts → declared p.core.types d ≡ Some parts
-          → (o : Option ℕ) → deinit_of p.core.deinits d ≡ o → (b : Bool) (ds : List Deed) → all (DeedOk forms n) ds → all (DeedOk forms n) (cond (is_there o && b) (Body d s ∷ []) ds)
+      product_ok : (s : Spot) (d : ℕ) (parts : List TyId) → s.key.act < n → form_on p.core.types (forms s.key) s.path ≡ Products d parts
+          → declared p.core.types d ≡ Some parts
+          → (o : Option ℕ) → deinit_of p.core.deinits d ≡ o → (b : Bool) (ds : List Deed) → all (DeedOk forms n) ds
+          → all (DeedOk forms n) (cond (is_there o && b) (Body d s ∷ []) ds)
       product_ok s d parts lt e g None q b ds h = h
       product_ok s d parts lt e g (Some k) q true ds h = (record { below = lt; fun = k; found = q; parts = parts; product = e; declared = g }, tt)
       product_ok s d parts lt e g (Some k) q false ds h = h
 
       mutual
-        deeds_ok : (s : Spot) (v : Val) → s.key.act < n → Fits p.core.types (form_on p.core.types (forms s.key) s.path) v → all (DeedOk forms n) (deeds p.core.deinits s v)
+        deeds_ok : (s : Spot) (v : Val) → s.key.act < n → Fits p.core.types (form_on p.core.types (forms s.key) s.path) v
+            → all (DeedOk forms n) (deeds p.core.deinits s v)
         deeds_ok s Unset lt h = tt
-        deeds_ok s (Number k) lt h = tt
+        deeds_ok s (Number u k) lt h = tt
         deeds_ok s (Truth b) lt h = tt
-        deeds_ok s (Tuple vs) lt h = parts_ok s vs zero lt (parts_first s vs (λ j. on_part s (Tuple vs) j h))
-        deeds_ok s (Product d vs) lt h = product_ok s d h.0 lt h.1 h.2 (deinit_of p.core.deinits d) refl (all_whole vs) _ (parts_ok s vs zero lt (parts_first s vs (λ j. on_part s (Product d vs) j h)))
+        deeds_ok s (Tuple vs) lt h = parts_ok s vs zero lt (parts_first s vs (λ j. on_part s (Tuple vs) (PartAt j) h))
+        deeds_ok s (Product d vs) lt h =
+            product_ok s d h.0 lt h.1 h.2 (deinit_of p.core.deinits d) refl (all_whole vs) _
+            (parts_ok s vs zero lt (parts_first s vs (λ j. on_part s (Product d vs) (PartAt j) h)))
         deeds_ok s (Array vs) lt h = (lt, tt)
 
         parts_ok : (s : Spot) (vs : Vals) (i : ℕ) → s.key.act < n → PartsFit s i vs → all (DeedOk forms n) (deeds_from p.core.deinits s i vs)
         parts_ok s No i lt h = tt
         parts_ok s (And v vs) i lt h =
             let z : i + 0 ≡ i = omega arith in
-            all_append _ _ (deeds_ok (below s (i ∷ [])) v lt (subst (λ k. Fits p.core.types (form_on p.core.types (forms s.key) (s.path ++ k ∷ [])) v) z (h 0)))
-            (parts_ok s vs (suc i) lt (λ j. let z : i + suc j ≡ suc i + j = omega arith in subst (λ k. Fits p.core.types (form_on p.core.types (forms s.key) (s.path ++ k ∷ [])) (nth j vs)) z (h (suc j))))
+            all_append _ _
+            (deeds_ok (below s (PartAt i ∷ [])) v lt (subst (λ k. Fits p.core.types (form_on p.core.types (forms s.key) (s.path ++ PartAt k ∷ [])) v) z
+            (h 0)))
+            (parts_ok s vs (suc i) lt (λ j. let z : i + suc j ≡ suc i + j = omega arith in
+            subst (λ k. Fits p.core.types (form_on p.core.types (forms s.key) (s.path ++ PartAt k ∷ [])) (nth j vs)) z (h (suc j))))
 
-      part_deeds_ok : (s : Spot) (v : Val) → s.key.act < n → Fits p.core.types (form_on p.core.types (forms s.key) s.path) v → all (DeedOk forms n) (part_deeds p.core.deinits s v)
+      part_deeds_ok : (s : Spot) (v : Val) → s.key.act < n → Fits p.core.types (form_on p.core.types (forms s.key) s.path) v
+          → all (DeedOk forms n) (part_deeds p.core.deinits s v)
       part_deeds_ok s Unset lt h = tt
-      part_deeds_ok s (Number k) lt h = tt
+      part_deeds_ok s (Number u k) lt h = tt
       part_deeds_ok s (Truth b) lt h = tt
-      part_deeds_ok s (Tuple vs) lt h = parts_ok s vs zero lt (parts_first s vs (λ j. on_part s (Tuple vs) j h))
-      part_deeds_ok s (Product d vs) lt h = parts_ok s vs zero lt (parts_first s vs (λ j. on_part s (Product d vs) j h))
+      part_deeds_ok s (Tuple vs) lt h = parts_ok s vs zero lt (parts_first s vs (λ j. on_part s (Tuple vs) (PartAt j) h))
+      part_deeds_ok s (Product d vs) lt h = parts_ok s vs zero lt (parts_first s vs (λ j. on_part s (Product d vs) (PartAt j) h))
       part_deeds_ok s (Array vs) lt h = tt
 
       doing_ok : (ds : List Deed) (ts : List Task) → all (DeedOk forms n) ds → all (TaskOk forms n) ts → all (TaskOk forms n) (doing ds ts)
@@ -415,18 +473,21 @@ module _ (p : Setting) where
       elements_ok s (suc i) ts lt h = elements_ok s i _ lt (lt, h)
 
     -- the deinitialiser that a product has
-    deinit_found : (ds : List Deinit) (d k : ℕ) → deinit_of ds d ≡ Some k → all (IsDeinit p.core) ds → (x : Deinit) × (x.product ≡ d) × (x.fun ≡ k) × IsDeinit p.core x
+    deinit_found : (ds : List Deinit) (d k : ℕ) → deinit_of ds d ≡ Some k → all (IsDeinit p.core) ds → (x : Deinit) × (x.product ≡ d) × (x.fun ≡ k)
+        × IsDeinit p.core x
     deinit_found [] d k e h = absurd (cc)
     deinit_found (x ∷ xs) d k e h = go (x.product == d) (eqb_tells x.product d) e (λ e. deinit_found xs d k e h.1)
       where
         go : (b : Bool) → ((b ≡ true) × (x.product ≡ d)) ⊎ ((b ≡ false) × (x.product ≢ d)) → cond b (Some x.fun) (deinit_of xs d) ≡ Some k
-            → (deinit_of xs d ≡ Some k → (x : Deinit) × (x.product ≡ d) × (x.fun ≡ k) × IsDeinit p.core x) → (x : Deinit) × (x.product ≡ d) × (x.fun ≡ k) × IsDeinit p.core x
+            → (deinit_of xs d ≡ Some k → (x : Deinit) × (x.product ≡ d) × (x.fun ≡ k) × IsDeinit p.core x) → (x : Deinit) × (x.product ≡ d) × (x.fun ≡ k)
+            × IsDeinit p.core x
         go true (inl a) e on = (x, a.1, (let f : x.fun ≡ k = cc in f), h.0)
         go true (inr a) e on = absurd (let f = a.0 in cc)
         go false a e on = on e
 
     module _ (forms : Key → Form) (n : ℕ) (f : Fun) (y : Bool) where
-      good_body : (c : Control) (m : Copies) (d : ℕ) (s : Spot) (k : ℕ) → Q forms n n f y c → IsBody forms n d s → deinit_of p.core.deinits d ≡ Some k → IsTyped p.core.types forms n m
+      good_body : (c : Control) (m : Copies) (d : ℕ) (s : Spot) (k : ℕ) → Q forms n n f y c → IsBody forms n d s → deinit_of p.core.deinits d ≡ Some k
+          → IsTyped p.core.types forms n m
           → Good Stands (deinit_body c s (slice_get p.core.funs k)) m
       good_body c m d s k q b found h =
           let x = deinit_found p.core.deinits d k found sh.deinits in
@@ -439,62 +500,80 @@ module _ (p : Setting) where
           let parts_is : is.parts ≡ b.parts =
           (let e : declared p.core.types x.0.product ≡ Some is.parts = declared_with p.core.types is.type x.0.product is.parts is.product in
           let z : Some is.parts ≡ Some b.parts = sym e ∙ ap (declared p.core.types) x.1 ∙ b.declared in cc) in
-          let first : new (at n zero) ≡ form p.core.types is.type = new_forms forms n g zero ∙ ap (λ ts. form_at p.core.types (slice_get (ts ++ (g.owned ++ g.locals)) zero)) is.lent in
+          let first : new (at n zero) ≡ form p.core.types is.type = new_forms forms n g zero
+          ∙ ap (λ ts. form_at p.core.types (slice_get (ts ++ (g.owned ++ g.locals)) zero)) (ap types_of is.lent) in
           let same : new (at c.started zero) ≡ form_on p.core.types (new s.key) s.path =
-          ap (λ k. new (at k zero)) started ∙ first ∙ is.product ∙ (λ i. Products (x.1 i) (parts_is i)) ∙ sym b.product ∙ ap (λ f. form_on p.core.types f s.path) (sym (old_forms forms n g s.key lt)) in
+          ap (λ k. new (at k zero)) started ∙ first ∙ is.product ∙ (λ i. Products (x.1 i) (parts_is i)) ∙ sym b.product
+          ∙ ap (λ f. form_on p.core.types f s.path) (sym (old_forms forms n g s.key lt)) in
           good_some p Stands c (slice_get p.core.funs k) _ m g at_fun
           (good_turn p Stands (count_one c) c.turns _ m (λ j. begins new n f y (record c { opened = suc c.opened; turns = j }) _ g Nowhere (sh.funs k g at_fun)
-          (q_keep forms n f y c new (suc n) (omega arith) (old_forms forms n g) q) tt (subst (λ r. DestOk r false Nowhere) (sym is.ramp) tt) (new_forms forms n g)
+          (q_keep forms n f y c new (suc n) (omega arith) (old_forms forms n g) q) tt (subst (λ r. DestOk r false Nowhere) (sym is.ramp) tt)
+          (new_forms forms n g)
           (typed_lend p.core.types new (suc n) m (typed_new forms n g m h) (at c.started zero) s Writes (omega arith) (omega arith) same)))
 
-      -- with what is left behind the deinitialisation
+      -- with what is left after the deinitialisation
       abbrev OnOk : Control → Work → Type 0
       OnOk c w = BaseOf forms n n f c × Goes_on forms n f y w c.now.dest
 
-      drops : (c : Control) (w : Work) (ts : List Task) → all (TaskOk forms n) ts → Goes_on forms n f y w c.now.dest → Goes_on forms n f y (Drops ts w) c.now.dest
-      drops c w ts h on = record { work = (h, on.work); paths = on.paths; leads = on.leads }
+      drops : (c : Control) (w : Work) (ts : List Task) → all (TaskOk forms n) ts → Goes_on forms n f y w c.now.dest
+          → Goes_on forms n f y (Drops ts w) c.now.dest
+      drops c w ts h on = record { work = (h, on.work); paths = on.paths; flows = on.flows }
 
-      good_deed : (c : Control) (m : Copies) (w : Work) (d : Deed) (ts : List Task) → BaseOf forms n n f c → Goes_on forms n f y w c.now.dest → DeedOk forms n d → all (TaskOk forms n) ts
+      good_deed : (c : Control) (m : Copies) (w : Work) (d : Deed) (ts : List Task) → BaseOf forms n n f c → Goes_on forms n f y w c.now.dest
+          → DeedOk forms n d → all (TaskOk forms n) ts
           → IsTyped p.core.types forms n m → Good Stands (does_deed p c w d ts) m
       good_deed c m w (Body d s) ts base on b h typed =
           good_some p Stands c (deinit_of p.core.deinits d) _ m b.fun b.found
-          (good_body (with_work c (Drops (PartsOf s ∷ ts) w)) m d s b.fun (record { base = base; on = drops c w (PartsOf s ∷ ts) (b.below, h) on }) b b.found typed)
-      good_deed c m w (EachOf k s) ts base on b h typed = good_turn p Stands (count_one c) c.turns _ m (λ j. goes forms n f y (record c { opened = suc c.opened; turns = j }) m (Drops (elements s k ts) w) base (drops c w (elements s k ts) (elements_ok forms n s k ts b h) on) typed)
-      good_deed c m w (Element s) ts base on b h typed = good_turn p Stands c c.turns _ m (λ j. goes forms n f y (record (record c { turns = j }) { opened = suc c.opened }) m (Drops (Value s ∷ ts) w) base (drops c w (Value s ∷ ts) (b, h) on) typed)
+          (good_body (with_work c (Drops (PartsOf s ∷ ts) w)) m d s b.fun (record { base = base; on = drops c w (PartsOf s ∷ ts) (b.below, h) on }) b
+          b.found typed)
+      good_deed c m w (EachOf k s) ts base on b h typed =
+          good_turn p Stands (count_one c) c.turns _ m (λ j. goes forms n f y (record c { opened = suc c.opened; turns = j }) m (Drops (elements s k ts) w)
+          base (drops c w (elements s k ts) (elements_ok forms n s k ts b h) on) typed)
+      good_deed c m w (Element s) ts base on b h typed =
+          good_turn p Stands c c.turns _ m (λ j. goes forms n f y (record (record c { turns = j }) { opened = suc c.opened }) m (Drops (Value s ∷ ts) w)
+          base (drops c w (Value s ∷ ts) (b, h) on) typed)
 
-      good_first : (c : Control) (m : Copies) (w : Work) (ds : List Deed) (ts : List Task) (t : Talk Control) → BaseOf forms n n f c → Goes_on forms n f y w c.now.dest → all (DeedOk forms n) ds → all (TaskOk forms n) ts
+      good_first : (c : Control) (m : Copies) (w : Work) (ds : List Deed) (ts : List Task) (t : Interaction Control) → BaseOf forms n n f c
+          → Goes_on forms n f y w c.now.dest → all (DeedOk forms n) ds → all (TaskOk forms n) ts
           → IsTyped p.core.types forms n m → Good Stands t m → Good Stands (first_deed p c w ds ts t) m
       good_first c m w [] ts t base on a b typed h = h
       good_first c m w (d ∷ ds) ts t base on a b typed h = good_deed c m w d (doing ds ts) base on a.0 (doing_ok forms n ds ts a.1 b) typed
 
-      good_tasks : (c : Control) (w : Work) (ts : List Task) (m : Copies) → BaseOf forms n n f c → Goes_on forms n f y w c.now.dest → all (TaskOk forms n) ts → IsTyped p.core.types forms n m → Good Stands (does_tasks p c w ts) m
+      good_tasks : (c : Control) (w : Work) (ts : List Task) (m : Copies) → BaseOf forms n n f c → Goes_on forms n f y w c.now.dest
+          → all (TaskOk forms n) ts → IsTyped p.core.types forms n m → Good Stands (does_tasks p c w ts) m
       good_tasks c w [] m base on h typed = goes forms n f y c m w base on typed
       good_tasks c w (Do d ∷ ts) m base on h typed = good_deed c m w d ts base on h.0 h.1 typed
       good_tasks c w (Value s ∷ ts) m base on h typed =
           let v = get s.path (m.value s.key) in
-          good_first c m w (deeds p.core.deinits s v) ts _ base on (deeds_ok forms n s v h.0 (typed_read p.core.types forms n m typed s)) h.1 typed (good_tasks c w ts m base on h.1 typed)
+          good_first c m w (deeds p.core.deinits s v) ts _ base on (deeds_ok forms n s v h.0 (typed_read p.core.types forms n m typed s)) h.1 typed
+          (good_tasks c w ts m base on h.1 typed)
       good_tasks c w (PartsOf s ∷ ts) m base on h typed =
           let v = get s.path (m.value s.key) in
-          good_first c m w (part_deeds p.core.deinits s v) ts _ base on (part_deeds_ok forms n s v h.0 (typed_read p.core.types forms n m typed s)) h.1 typed (good_tasks c w ts m base on h.1 typed)
+          good_first c m w (part_deeds p.core.deinits s v) ts _ base on (part_deeds_ok forms n s v h.0 (typed_read p.core.types forms n m typed s)) h.1
+          typed (good_tasks c w ts m base on h.1 typed)
       good_tasks c w (Unsets s ∷ ts) m base on h typed = good_tasks c w ts _ base on h.1 (typed_store p.core.types forms n m typed s Unset h.0 tt)
 
     -- STATEMENTS
 
-    nap_found : (forms : Key → Form) (n : ℕ) (xs : List Nap) (k : Key) (b : Activation) → sleeper_of xs k ≡ Some b → NapsOk forms n xs → Frame forms n b × (b.dest ≡ Nowhere)
+    nap_found : (forms : Key → Form) (n : ℕ) (xs : List Nap) (k : Key) (b : Activation) → sleeper_of xs k ≡ Some b → NapsOk forms n xs → Frame forms n b
+        × (b.dest ≡ Nowhere)
     nap_found forms n [] k b e h = absurd (cc)
     nap_found forms n (x ∷ xs) k b e h = at_key (sleeper_of xs) x.key (Some x.act) k (λ o. o ≡ Some b → Frame forms n b × (b.dest ≡ Nowhere))
         (λ _ e. let z : x.act ≡ b = cc in subst (λ b. Frame forms n b × (b.dest ≡ Nowhere)) z (h.0, h.1)) (λ _ e. nap_found forms n xs k b e h.2) e
 
     wake_ok : (forms : Key → Form) (n : ℕ) (xs : List Nap) (k : Key) → NapsOk forms n xs → NapsOk forms n (wake xs k)
     wake_ok forms n [] k h = tt
-    wake_ok forms n (x ∷ xs) k h = at_key {A = List Nap} (λ _. x ∷ wake xs k) k (wake xs k) x.key (NapsOk forms n) (λ _. wake_ok forms n xs k h.2) (λ _. (h.0, h.1, wake_ok forms n xs k h.2))
+    wake_ok forms n (x ∷ xs) k h =
+        at_key {A = List Nap} (λ _. x ∷ wake xs k) k (wake xs k) x.key (NapsOk forms n) (λ _. wake_ok forms n xs k h.2)
+        (λ _. (h.0, h.1, wake_ok forms n xs k h.2))
 
     -- an activation goes on where it waited
-    resumes : (forms : Key → Form) (n : ℕ) (a : Activation) (c : Control) (callers : List Activation) (asleep : List Nap) (x : Frame forms n a) → c.halt ≡ None → c.started ≡ n → CallersOk forms n a.dest x.fun.result callers → NapsOk forms n asleep
+    resumes : (forms : Key → Form) (n : ℕ) (a : Activation) (c : Control) (callers : List Activation) (asleep : List Nap) (x : Frame forms n a)
+        → c.halt ≡ None → c.started ≡ n → CallersOk forms n a.dest x.fun.result callers → NapsOk forms n asleep
         → Q forms n n x.fun x.yielded (record c { now = a; callers = callers; asleep = asleep })
     resumes forms n a c callers asleep x none count frames naps = record {
       base = record { none = none; count = count; same = x.same; below = x.below; locals = x.locals; frames = frames; naps = naps };
-      on = record { work = x.work; paths = x.paths; leads = x.dest };
+      on = record { work = x.work; paths = x.paths; flows = x.dest };
     }
 
     broken_ok : (forms : Key → Form) (n : ℕ) (f : Fun) (w v : Work) → broken w ≡ Some v → WorkOk forms n f w → WorkOk forms n f v
@@ -517,7 +596,8 @@ module _ (p : Setting) where
     GivesBack (Opens l) v t = ⊥
     GivesBack Nowhere v t = Unit {0}
 
-    gives_back : (f : Fun) (ramp y : Bool) (dest : Dest) (v : Val) (t : TyId) → DestOk ramp y dest → y ≡ ramp → Leaves p.core f ramp t → Fits p.core.types (form p.core.types t) v → GivesBack dest v f.result
+    gives_back : (f : Fun) (ramp y : Bool) (dest : Dest) (v : Val) (t : TyId) → DestOk ramp y dest → y ≡ ramp → Leaves p.core f ramp t
+        → Fits p.core.types (form p.core.types t) v → GivesBack dest v f.result
     gives_back f false false (control.Result place) v t d e is h = subst (λ t. Fits p.core.types (form p.core.types t) v) is h
     gives_back f false false (Opens l) v t d e is h = absurd d
     gives_back f false false Nowhere v t d e is h = tt
@@ -526,20 +606,24 @@ module _ (p : Setting) where
     gives_back f true true dest v t d e is h = subst (λ d. GivesBack d v f.result) (sym d) tt
 
     module _ (forms : Key → Form) (n : ℕ) where
-      good_back : (c : Control) (m : Copies) (callers : List Activation) (v : Val) (dest : Dest) (t : TyId) → c.halt ≡ None → c.started ≡ n → NapsOk forms n c.asleep → CallersOk forms n dest t callers → GivesBack dest v t
+      good_back : (c : Control) (m : Copies) (callers : List Activation) (v : Val) (dest : Dest) (t : TyId) → c.halt ≡ None → c.started ≡ n
+          → NapsOk forms n c.asleep → CallersOk forms n dest t callers → GivesBack dest v t
           → IsTyped p.core.types forms n m → Good Stands (back p c callers v dest) m
       good_back c m [] v dest t none count naps frames gives h = over (Ends end.Done) refl (λ e. absurd (cc))
       good_back c m (a ∷ rest) v (control.Result place) t none count naps frames gives h =
           let x : Frame forms n a = frames.0 in
-          good_write p Stands forms n x.fun (Q forms n n x.fun x.yielded) (q_count forms n n x.fun x.yielded) (q_local forms n n x.fun x.yielded) place t v Next frames.1 gives (q_done forms n x.fun x.yielded)
+          good_write p Stands forms n x.fun (Q forms n n x.fun x.yielded) (q_count forms n n x.fun x.yielded) (q_local forms n n x.fun x.yielded) place t v
+          Return frames.1 gives (q_done forms n x.fun x.yielded)
           (record c { now = a; callers = rest }) m (resumes forms n a c rest c.asleep x none count frames.2 naps) h
       good_back c m (a ∷ rest) v (Opens l) t none count naps frames gives h = absurd gives
       good_back c m (a ∷ rest) v Nowhere t none count naps frames gives h =
           let x : Frame forms n a = frames.0 in
           q_done forms n x.fun x.yielded (record c { now = a; callers = rest }) m (resumes forms n a c rest c.asleep x none count frames.2 naps) h
 
-      good_yield : (c : Control) (m : Copies) (f : Fun) (of : ℕ) (callers : List Activation) (dest : Dest) → BaseOf forms n n f c → WorkOk forms n f c.now.work → f.ramp ≡ true → WorkGoes f.ramp c.now.work true
-          → local_type f of ≡ Some f.result → IsOpening dest → CallersOk forms n dest f.result callers → IsTyped p.core.types forms n m → Good Stands (yield_to c of callers dest) m
+      good_yield : (c : Control) (m : Copies) (f : Fun) (of : ℕ) (callers : List Activation) (dest : Dest) → BaseOf forms n n f c
+          → WorkOk forms n f c.now.work → (is_ramp f) ≡ true → WorkGoes (is_ramp f) c.now.work true
+          → local_type f of ≡ Some f.result → IsOpening dest → CallersOk forms n dest f.result callers → IsTyped p.core.types forms n m
+          → Good Stands (yield_to c of callers dest) m
       good_yield c m f of [] (control.Result place) base work ramp paths is opens frames h = absurd opens
       good_yield c m f of [] (Opens l) base work ramp paths is opens frames h = absurd frames
       good_yield c m f of [] Nowhere base work ramp paths is opens frames h = absurd opens
@@ -559,8 +643,10 @@ module _ (p : Setting) where
             paths = paths;
             dest = subst (λ r. DestOk r true Nowhere) (sym ramp) refl;
           } in
-          q_done forms n x.fun x.yielded (record c { now = a; callers = rest; asleep = nap ∷ c.asleep }) _ (resumes forms n a c rest (nap ∷ c.asleep) x base.none base.count frames.2 (frame, refl, base.naps))
-          (typed_lend p.core.types forms n m h k (whole (key c of)) _ x.below base.below (x.locals l ∙ ap (form_at p.core.types) frames.1 ∙ sym (base.locals of ∙ ap (form_at p.core.types) is)))
+          q_done forms n x.fun x.yielded (record c { now = a; callers = rest; asleep = nap ∷ c.asleep }) _
+          (resumes forms n a c rest (nap ∷ c.asleep) x base.none base.count frames.2 (frame, refl, base.naps))
+          (typed_lend p.core.types forms n m h k (whole (key c of)) _ x.below base.below (x.locals l ∙ ap (form_at p.core.types) frames.1
+          ∙ sym (base.locals of ∙ ap (form_at p.core.types) is)))
 
     module _ (forms : Key → Form) (n : ℕ) (f : Fun) (y : Bool) where
       abbrev Now : Control → Type 0
@@ -569,10 +655,11 @@ module _ (p : Setting) where
       abbrev Types : Copies → Type 0
       Types m = IsTyped p.core.types forms n m
 
-      abbrev Always_good : (Control → Talk Control) → Type 0
+      abbrev Always_good : (Control → Interaction Control) → Type 0
       Always_good go = (c : Control) (m : Copies) → Now c → Types m → Good Stands (go c) m
 
-      good_slide : (c : Control) (m : Copies) (k : Key) (o : Option Activation) → Now c → ((b : Activation) → o ≡ Some b → Frame forms n b × (b.dest ≡ Nowhere)) → Types m → Good Stands (slide_of c k o) m
+      good_slide : (c : Control) (m : Copies) (k : Key) (o : Option Activation) → Now c
+          → ((b : Activation) → o ≡ Some b → Frame forms n b × (b.dest ≡ Nowhere)) → Types m → Good Stands (slide_of c k o) m
       unfolding q_frame
       good_slide c m k None q nap h = over NotOpened refl (λ e. absurd (cc))
       good_slide c m k (Some b) q nap h =
@@ -585,15 +672,18 @@ module _ (p : Setting) where
 
       good_close : (c : Control) (m : Copies) (l : ℕ) (o : Option Activation) → Now c → Types m → Good Stands (close_of c l o) m
       good_close c m l (Some b) q h = over NotOpened refl (λ e. absurd (cc))
-      good_close c m l None q h = go (nat_lt l (length c.now.fun.lent))
+      good_close c m l None q h = go (nat_lt l (length (lent_types c.now.fun)))
         where
-          go : (b : Bool) → Good Stands (cond b (stop c NotOpened) (Tell (op.Close (key c l)) (Next c))) m
+          go : (b : Bool) → Good Stands (cond b (stop c NotOpened) (Perform (effect.Close (key c l)) (Return c))) m
           go true = over NotOpened refl (λ e. absurd (cc))
           go false = q_done forms n f y c _ q (typed_close p.core.types forms n m h (key c l))
 
-      good_lend : (to : ℕ) (place : Place) (w : Bool) (t : TyId) → local_type f to ≡ Some t → IsOf p.core f t place → Always_good (λ c. does p c (Lend to place w))
-      good_lend to place w t local is = good_spot p Stands forms n f Now (q_count forms n n f y) (q_local forms n n f y) (aim w) place t _ (quits w) is (λ c m s q h lt e.
-          last (is_counted place.steps) c _ q (typed_lend p.core.types forms n m h (key c to) s (way w) q.base.below lt (q.base.locals to ∙ ap (form_at p.core.types) local ∙ sym e)))
+      good_lend : (to : ℕ) (place : Place) (w : Bool) (t : TyId) → local_type f to ≡ Some t → IsOf p.core f t place
+          → Always_good (λ c. does p c (Lend to place w))
+      good_lend to place w t local is =
+          good_spot p Stands forms n f Now (q_count forms n n f y) (q_local forms n n f y) (aim w) place t _ (quits w) is (λ c m s q h lt e.
+          last (is_counted place.steps) c _ q (typed_lend p.core.types forms n m h (key c to) s (way w) q.base.below lt (q.base.locals to
+          ∙ ap (form_at p.core.types) local ∙ sym e)))
         where
           quits : (w : Bool) → Quits p Stands forms n f Now (q_count forms n n f y) (q_local forms n n f y) (aim w)
           quits true = tt
@@ -604,105 +694,156 @@ module _ (p : Setting) where
           last false c m q h = q_done forms n f y c m q h
 
       good_drop : (stage : Stage) (place : Place) (t : TyId) → IsOf p.core f t place → Always_good (λ c. drop p stage c place)
-      good_drop Deinitialises place t is = good_spot p Stands forms n f Now (q_count forms n n f y) (q_local forms n n f y) ToDrop place t _ (q_done forms n f y) is (λ c m s q h lt e.
-          goes forms n f y c m (Drops (Value s ∷ Unsets s ∷ []) c.now.work) q.base (record { work = ((lt, (lt, tt)), q.on.work); paths = q.on.paths; leads = q.on.leads }) h)
-      good_drop GivesUp place t is = good_take p Stands forms n f Now (q_count forms n n f y) (q_local forms n n f y) place t _ is (λ c m v q h fits. q_done forms n f y c m q h)
+      good_drop Deinitialises place t is =
+          good_spot p Stands forms n f Now (q_count forms n n f y) (q_local forms n n f y) ToDrop place t _ (q_done forms n f y) is (λ c m s q h lt e.
+          goes forms n f y c m (Drops (Value s ∷ Unsets s ∷ []) c.now.work) q.base (record {
+            work = ((lt, (lt, tt)), q.on.work);
+            paths = q.on.paths;
+            flows =
+                q.on.flows;
+          }) h)
+      good_drop GivesUp place t is =
+          good_take p Stands forms n f Now (q_count forms n n f y) (q_local forms n n f y) place t _ is (λ c m v q h fits. q_done forms n f y c m q h)
 
-      good_leave : (c : Control) (m : Copies) (from : Place) (t : TyId) → IsOf p.core f t from → Leaves p.core f f.ramp t → y ≡ f.ramp → BaseOf forms n n f c → DestOk f.ramp y c.now.dest → Types m → Good Stands (does p c (Leave from)) m
+      good_leave : (c : Control) (m : Copies) (from : Place) (t : TyId) → IsOf p.core f t from → Leaves p.core f (is_ramp f) t → y ≡ (is_ramp f)
+          → BaseOf forms n n f c → DestOk (is_ramp f) y c.now.dest → Types m → Good Stands (does p c (Leave from)) m
       good_leave c m from t is leaves e base d h =
-          let k = length c.now.fun.lent in
-          good_take p Stands forms n f (λ c. BaseOf forms n n f c × DestOk f.ramp y c.now.dest) (λ c q. q) (λ c q. let b = q.0 in record { fun = b.same; below = b.below; locals = b.locals }) from t _ is
-          (λ c m v q h fits. closes forms n c (back p c c.callers v c.now.dest) (λ m h. good_back forms n c m c.callers v c.now.dest f.result q.0.none q.0.count q.0.naps q.0.frames (gives_back f f.ramp y c.now.dest v t q.1 e leaves fits) h) k m h)
+          let k = length (lent_types c.now.fun) in
+          good_take p Stands forms n f (λ c. BaseOf forms n n f c × DestOk (is_ramp f) y c.now.dest) (λ c q. q) (λ c q. let b = q.0 in
+          record { fun = b.same; below = b.below; locals = b.locals }) from t _ is
+          (λ c m v q h fits. closes forms n c (back p c c.callers v c.now.dest)
+          (λ m h. good_back forms n c m c.callers v c.now.dest f.result q.0.none q.0.count q.0.naps q.0.frames
+          (gives_back f (is_ramp f) y c.now.dest v t q.1 e leaves fits) h) k m h)
           c m (base, d) h
 
-      good_if : (c : Control) (m : Copies) (on : ℕ) (go : Bool → Talk Control) → BaseOf forms n n f c → HasForm p.core f on Flags → Types m → ((b : Bool) → Good Stands (go b) m) → Good Stands (with_flag c (m.value (key c on)) go) m
-      good_if c m on go base is h next = good_flag p Stands p.core.types (forms (key c on)) c (m.value (key c on)) go m (h.value (key c on)) (base.locals on ∙ ap (form_at p.core.types) is.1 ∙ is.2) next
+      good_if : (c : Control) (m : Copies) (on : ℕ) (go : Bool → Interaction Control) → BaseOf forms n n f c → HasForm p.core f on Flags → Types m
+          → ((b : Bool) → Good Stands (go b) m) → Good Stands (with_flag c (m.value (key c on)) go) m
+      good_if c m on go base is h next = good_flag p Stands p.core.types (forms (key c on)) c (m.value (key c on)) go m (h.value (key c on)) (base.locals on
+          ∙ ap (form_at p.core.types) is.1 ∙ is.2) next
 
-      -- c has what is left behind the statement
-      good_does : (c : Control) (m : Copies) (s : Stmt) → BaseOf forms n n f c → WorkOk forms n f c.now.work → DestOk f.ramp y c.now.dest → IsShaped p.core f s
-          → Goes f.ramp s y (WorkGoes f.ramp c.now.work) (BreakGoes f.ramp c.now.work) (AgainGoes f.ramp c.now.work) → Types m → Good Stands (does p c s) m
+      -- c has what is left after the statement
+      good_does : (c : Control) (m : Copies) (s : Stmt) → BaseOf forms n n f c → WorkOk forms n f c.now.work → DestOk (is_ramp f) y c.now.dest
+          → IsShaped p.core f s
+          → Goes (is_ramp f) s y (WorkGoes (is_ramp f) c.now.work) (BreakGoes (is_ramp f) c.now.work) (AgainGoes (is_ramp f) c.now.work) → Types m
+          → Good Stands (does p c s) m
       good_does c m (Built o to from spans) base work d is paths h =
-          good_built p Stands forms n f Now (q_up forms n n f y) (q_local forms n n f y) (q_done forms n f y) o to from spans is c m (record { base = base; on = record { work = work; paths = paths; leads = d } }) h
+          good_built p Stands forms n f Now (q_up forms n n f y) (q_local forms n n f y) (q_done forms n f y) o to from spans is c m
+          (record { base = base; on = record { work = work; paths = paths; flows = d } }) h
       good_does c m (Set to k) base work d is paths h =
           let ok : IsOf p.core f is.0 to = is.1 in
-          good_constant p Stands forms n f Now (q_up forms n n f y) (q_local forms n n f y) (q_done forms n f y) to is.0 k ok is.2 c m (record { base = base; on = record { work = work; paths = paths; leads = d } }) h
+          good_constant p Stands forms n f Now (q_up forms n n f y) (q_local forms n n f y) (q_done forms n f y) to is.0 k ok is.2 c m
+          (record { base = base; on = record { work = work; paths = paths; flows = d } }) h
       good_does c m (Lend to place w) base work d is paths h =
-          let ok : IsOf p.core f is.0 place = is.2 in good_lend to place w is.0 is.1 ok c m (record { base = base; on = record { work = work; paths = paths; leads = d } }) h
-      good_does c m (Close l) base work d is paths h = good_close c m l (sleeper_of c.asleep (key c l)) (record { base = base; on = record { work = work; paths = paths; leads = d } }) h
+          let ok : IsOf p.core f is.0 place = is.2 in
+          good_lend to place w is.0 is.1 ok c m (record { base = base; on = record { work = work; paths = paths; flows = d } }) h
+      good_does c m (Close l) base work d is paths h =
+          good_close c m l (sleeper_of c.asleep (key c l)) (record { base = base; on = record { work = work; paths = paths; flows = d } }) h
       good_does c m (Move to from) base work d is paths h =
           let from_ok : IsOf p.core f is.0 from = is.2 in
           good_take p Stands forms n f Now (q_count forms n n f y) (q_local forms n n f y) from is.0 _ from_ok (λ c m v q h fits.
-          good_write p Stands forms n f Now (q_count forms n n f y) (q_local forms n n f y) to is.0 v Next is.1 fits (q_done forms n f y) c m q h) c m (record { base = base; on = record { work = work; paths = paths; leads = d } }) h
+          good_write p Stands forms n f Now (q_count forms n n f y) (q_local forms n n f y) to is.0 v Return is.1 fits (q_done forms n f y) c m q h) c m
+          (record { base = base; on = record { work = work; paths = paths; flows = d } }) h
       good_does c m (Copy to from) base work d is paths h =
           let from_ok : IsOf p.core f is.0 from = is.2 in
           good_read p Stands forms n f Now (q_count forms n n f y) (q_local forms n n f y) from is.0 _ from_ok (λ c m v q h fits whole.
           good_charged p Stands forms n f Now (q_up forms n n f y) (q_local forms n n f y) (q_done forms n f y) (charge v c.turns c.opened) _
-          (good_write p Stands forms n f Now (q_count forms n n f y) (q_local forms n n f y) to is.0 v Next is.1 fits (q_done forms n f y)) c m q h) c m (record { base = base; on = record { work = work; paths = paths; leads = d } }) h
-      good_does c m (Drop place) base work d is paths h = let ok : IsOf p.core f is.0 place = is.1 in good_drop p.stage place is.0 ok c m (record { base = base; on = record { work = work; paths = paths; leads = d } }) h
+          (good_write p Stands forms n f Now (q_count forms n n f y) (q_local forms n n f y) to is.0 v Return is.1 fits (q_done forms n f y)) c m q h) c m
+          (record { base = base; on = record { work = work; paths = paths; flows = d } }) h
+      good_does c m (Drop place) base work d is paths h = let ok : IsOf p.core f is.0 place = is.1 in
+          good_drop p.stage place is.0 ok c m (record { base = base; on = record { work = work; paths = paths; flows = d } }) h
       good_does c m (Call k lent owned to) base work d is paths h =
-          good_enter forms n f y c m false k lent owned (control.Result to) is.0 is.1 is.2 is.3 is.4 is.5 tt (record { base = base; on = record { work = work; paths = paths; leads = d } }) h
+          good_enter forms n f y c m false k lent owned (control.Result to) is.0 is.1 is.2 is.3 is.4 is.5 tt
+          (record { base = base; on = record { work = work; paths = paths; flows = d } }) h
       good_does c m (Project k lent owned to) base work d is paths h =
-          good_enter forms n f y c m true k lent owned (Opens to) is.0 is.1 is.2 is.3 is.4 is.5 tt (record { base = base; on = record { work = work; paths = paths; leads = d } }) h
+          good_enter forms n f y c m true k lent owned (Opens to) is.0 is.1 is.2 is.3 is.4 is.5 tt
+          (record { base = base; on = record { work = work; paths = paths; flows = d } }) h
       good_does c m (Slide l) base work d is paths h =
-          good_slide c m (key c l) (sleeper_of c.asleep (key c l)) (record { base = base; on = record { work = work; paths = paths; leads = d } }) (λ b e. nap_found forms n c.asleep (key c l) b e base.naps) h
+          good_slide c m (key c l) (sleeper_of c.asleep (key c l)) (record { base = base; on = record { work = work; paths = paths; flows = d } })
+          (λ b e. nap_found forms n c.asleep (key c l) b e base.naps) h
       good_does c m (Yield l) base work d is paths h =
           good_yield forms n c m f l c.callers c.now.dest base work paths.0 paths.2 is
-          (subst (λ r. DestOk r false c.now.dest) paths.0 (subst (λ z. DestOk f.ramp z c.now.dest) paths.1 d)) base.frames h
+          (subst (λ r. DestOk r false c.now.dest) paths.0 (subst (λ z. DestOk (is_ramp f) z c.now.dest) paths.1 d)) base.frames h
       good_does c m (If on a b) base work d is paths h = good_if c m on _ base is.0 h branch
         where
           branch : (x : Bool) → Fine Stands (with_work c (Rest (cond x a b) c.now.work)) m
-          branch true = goes forms n f y c m (Rest a c.now.work) base (record { work = (is.1, work); paths = paths.0; leads = d }) h
-          branch false = goes forms n f y c m (Rest b c.now.work) base (record { work = (is.2, work); paths = paths.1; leads = d }) h
+          branch true = goes forms n f y c m (Rest a c.now.work) base (record { work = (is.1, work); paths = paths.0; flows = d }) h
+          branch false = goes forms n f y c m (Rest b c.now.work) base (record { work = (is.2, work); paths = paths.1; flows = d }) h
       good_does c m (While head on body) base work d is paths h =
-          goes forms n f y c m (Loop head on body c.now.work) base (record { work = (is.0, is.1, is.2, work); paths = paths; leads = d }) h
+          goes forms n f y c m (Loop head on body c.now.work) base (record { work = (is.0, is.1, is.2, work); paths = paths; flows = d }) h
       good_does c m Break base work d is paths h =
-          let v = break_goes f.ramp c.now.work y paths in
-          good_some p Stands c (broken c.now.work) _ m v.0 v.1 (goes forms n f y c m v.0 base (record { work = broken_ok forms n f c.now.work v.0 v.1 work; paths = v.2; leads = d }) h)
+          let v = break_goes (is_ramp f) c.now.work y paths in
+          good_some p Stands c (broken c.now.work) _ m v.0 v.1
+          (goes forms n f y c m v.0 base (record { work = broken_ok forms n f c.now.work v.0 v.1 work; paths = v.2; flows = d }) h)
       good_does c m Continue base work d is paths h =
-          let v = again_goes f.ramp c.now.work y paths in
-          good_some p Stands c (continued c.now.work) _ m v.0 v.1 (goes forms n f y c m v.0 base (record { work = continued_ok forms n f c.now.work v.0 v.1 work; paths = v.2; leads = d }) h)
+          let v = again_goes (is_ramp f) c.now.work y paths in
+          good_some p Stands c (continued c.now.work) _ m v.0 v.1
+          (goes forms n f y c m v.0 base (record { work = continued_ok forms n f c.now.work v.0 v.1 work; paths = v.2; flows = d }) h)
       good_does c m (Leave from) base work d is paths h = let ok : IsOf p.core f is.0 from = is.1 in good_leave c m from is.0 ok is.2 paths base d h
 
       good_goes : (c : Control) (m : Copies) (w : Work) → BaseOf forms n n f c → Goes_on forms n f y w c.now.dest → Types m → Good Stands (goes_on p c w) m
       good_goes c m Idle base on h = absurd on.paths
-      good_goes c m (Rest Done w) base on h = goes forms n f y c m w base (record { work = on.work.1; paths = on.paths; leads = on.leads }) h
+      good_goes c m (Rest Done w) base on h = goes forms n f y c m w base (record { work = on.work.1; paths = on.paths; flows = on.flows }) h
       good_goes c m (Rest (Then s ss) w) base on h =
           let work : (IsShaped p.core f s × ShapedAll p.core f ss) × WorkOk forms n f w = on.work in
-          good_does (with_work c (Rest ss w)) m s base (work.0.1, work.1) on.leads work.0.0 on.paths h
+          good_does (with_work c (Rest ss w)) m s base (work.0.1, work.1) on.flows work.0.0 on.paths h
       good_goes c m (Loop head on body w) base x h =
-          goes forms n f y c m (Rest head (Test head on body w)) base (record { work = (x.work.0, x.work); paths = head_goes f.ramp head on body w y x.paths; leads = x.leads }) h
+          goes forms n f y c m (Rest head (Test head on body w)) base (record {
+            work = (x.work.0, x.work);
+            paths =
+                head_goes (is_ramp f) head on body w y x.paths;
+            flows = x.flows;
+          }) h
       good_goes c m (Test head on body w) base x h = good_if c m on _ base x.work.1 h branch
         where
           branch : (b : Bool) → Good Stands (tested c head on body w b) m
-          branch false = goes forms n f y c m w base (record { work = x.work.3; paths = x.paths.1; leads = x.leads }) h
+          branch false = goes forms n f y c m w base (record { work = x.work.3; paths = x.paths.1; flows = x.flows }) h
           branch true = good_turn p Stands c c.turns _ m (λ j.
-              goes forms n f y (record c { turns = j }) m (Rest body (Loop head on body w)) base (record { work = (x.work.2, x.work); paths = pass_goes f.ramp head on body w y x.paths; leads = x.leads }) h)
-      good_goes c m (Drops ts w) base on h = good_tasks forms n f y c w ts m base (record { work = on.work.1; paths = on.paths; leads = on.leads }) on.work.0 h
+              goes forms n f y (record c { turns = j }) m (Rest body (Loop head on body w)) base
+              (record { work = (x.work.2, x.work); paths = pass_goes (is_ramp f) head on body w y x.paths; flows = x.flows }) h)
+      good_goes c m (Drops ts w) base on h = good_tasks forms n f y c w ts m base (record { work = on.work.1; paths = on.paths; flows = on.flows }) on.work.0 h
 
     -- RUNS
 
-    good_step : (c : Control) (m : Copies) → Stands c m → Fine Stands (interpret copying (talk p c) m).control (interpret copying (talk p c) m).memory
+    good_step : (c : Control) (m : Copies) → Stands c m
+        → Fine Stands (interpret copying (interaction p c) m).control (interpret copying (interaction p c) m).memory
     good_step c m x =
-        subst (λ (o : Option Halt). Fine Stands (interpret copying (talk_of p c o) m).control (interpret copying (talk_of p c o) m).memory) (sym x.base.none)
+        subst (λ (o : Option Halt). Fine Stands (interpret copying (interaction_of p c o) m).control (interpret copying (interaction_of p c o) m).memory)
+        (sym x.base.none)
         (good_next Stands (goes_on p c c.now.work) m (good_goes x.forms x.count x.fun x.yielded c m c.now.work x.base x.on x.typed))
 
-    pub halted : (k : ℕ) (c : Control) (m : Copies) (h : Halt) → c.halt ≡ Some h → (steps copying (talk p) k c m).control.halt ≡ Some h
+    pub halted : (k : ℕ) (c : Control) (m : Copies) (h : Halt) → c.halt ≡ Some h → (steps copying (interaction p) k c m).control.halt ≡ Some h
     halted zero c m h e = e
     halted (suc k) c m h e =
-        subst (λ (o : Option Halt). (steps copying (talk p) k (interpret copying (talk_of p c o) m).control (interpret copying (talk_of p c o) m).memory).control.halt ≡ Some h) (sym e) (halted k c m h e)
+        subst (λ (o : Option Halt). (steps copying (interaction p) k (interpret copying (interaction_of p c o) m).control
+        (interpret copying (interaction_of p c o) m).memory).control.halt ≡ Some h) (sym e) (halted k c m h e)
 
-    halts_so : (k : ℕ) (c : Control) (m : Copies) (h : Halt) → h ≢ Stuck → c.halt ≡ Some h → (steps copying (talk p) k c m).control.halt ≢ Some Stuck
+    halts_so : (k : ℕ) (c : Control) (m : Copies) (h : Halt) → h ≢ Stuck → c.halt ≡ Some h → (steps copying (interaction p) k c m).control.halt ≢ Some Stuck
     halts_so k c m h n e q = let z : Some h ≡ Some Stuck = sym (halted k c m h e) ∙ q in n (let f : h ≡ Stuck = cc in f)
 
-    never : (k : ℕ) (c : Control) (m : Copies) → Stands c m → (steps copying (talk p) k c m).control.halt ≢ Some Stuck
+    never : (k : ℕ) (c : Control) (m : Copies) → Stands c m → (steps copying (interaction p) k c m).control.halt ≢ Some Stuck
     never zero c m x e = let z : None ≡ Some Stuck = sym x.base.none ∙ e in absurd (cc)
     never (suc k) c m x e = go _ _ (good_step c m x) (λ c m x. never k c m x) e
       where
-        go : (c : Control) (m : Copies) → Fine Stands c m → ((c : Control) (m : Copies) → Stands c m → (steps copying (talk p) k c m).control.halt ≢ Some Stuck) → (steps copying (talk p) k c m).control.halt ≢ Some Stuck
+        go : (c : Control) (m : Copies) → Fine Stands c m → ((c : Control) (m : Copies) → Stands c m
+            → (steps copying (interaction p) k c m).control.halt ≢ Some Stuck) → (steps copying (interaction p) k c m).control.halt ≢ Some Stuck
         go c m (over h e n) on = halts_so k c m h n e
         go c m (stands x) on = on c m x
 
-    first : (f : Fun) (input : List ℕ) (turns : ℕ) → slice_get p.core.funs 0 ≡ Some f → IsMain p.core f → Stands (begins_with (Some f) input turns None) no_copies
+    -- what stands at a place in a run that goes on has a type
+    abbrev HasForm_at : ℕ → Control → Copies → Type 0
+    HasForm_at k c m = let x = steps copying (interaction p) k c m in
+        x.control.halt ≡ None → (s : Spot) → (f : Form) × Fits p.core.types f (get s.path (x.memory.value s.key))
+
+    typed_at : (k : ℕ) (c : Control) (m : Copies) → Stands c m → HasForm_at k c m
+    typed_at zero c m x = λ none s. (form_on p.core.types (x.forms s.key) s.path, typed_read p.core.types x.forms x.count m x.typed s)
+    typed_at (suc k) c m x = go _ _ (good_step c m x) (λ c m x. typed_at k c m x)
+      where
+        go : (c : Control) (m : Copies) → Fine Stands c m → ((c : Control) (m : Copies) → Stands c m → HasForm_at k c m) → HasForm_at k c m
+        go c m (over h e n) on = λ none s. absurd (let z : Some h ≡ None = sym (halted k c m h e) ∙ none in cc)
+        go c m (stands x) on = on c m x
+
+    first : (f : Fun) (input : List ℕ) (turns : ℕ) → slice_get p.core.funs 0 ≡ Some f → IsMain p.core f
+        → Stands (begins_with (Some f) input turns None) no_copies
     first f input turns e is =
         let shaped = sh.funs 0 f e in
         let new = with_forms (λ _. Unknown) 0 f in
@@ -712,19 +853,37 @@ module _ (p : Setting) where
           fun = f;
           base = record { none = refl; count = refl; same = refl; below = omega arith; locals = new_forms (λ _. Unknown) 0 f; frames = tt; naps = tt };
           yielded = false;
-          on = record { work = (shaped.body, tt); paths = shaped.paths; leads = subst (λ r. DestOk r false Nowhere) (sym is.ramp) tt };
+          on = record { work = (shaped.body, tt); paths = shaped.paths; flows = subst (λ r. DestOk r false Nowhere) (sym is.ramp) tt };
           typed = record { value = λ k. tt; origin = λ k o e. absurd (cc); fresh = λ k le. refl };
         }
 
-    from_start : (k : ℕ) (input : List ℕ) (turns : ℕ) → (steps copying (talk p) k (start p.core input turns) no_copies).control.halt ≢ Some Stuck
+    from_start : (k : ℕ) (input : List ℕ) (turns : ℕ) → (steps copying (interaction p) k (start p.core input turns) no_copies).control.halt ≢ Some Stuck
     from_start k input zero =
         let main = sh.main in
-        subst (λ (o : Option Fun). (steps copying (talk p) k (begins_with o input zero (Some (Ends end.Spent))) no_copies).control.halt ≢ Some Stuck) (sym main.1)
+        subst (λ (o : Option Fun). (steps copying (interaction p) k (begins_with o input zero (Some (Ends end.Spent))) no_copies).control.halt ≢ Some Stuck)
+        (sym main.1)
         (halts_so k (begins_with (Some main.0) input zero (Some (Ends end.Spent))) no_copies (Ends end.Spent) (λ e. absurd (cc)) refl)
     from_start k input (suc n) =
         let main = sh.main in
-        subst (λ (o : Option Fun). (steps copying (talk p) k (begins_with o input n None) no_copies).control.halt ≢ Some Stuck) (sym main.1)
+        subst (λ (o : Option Fun). (steps copying (interaction p) k (begins_with o input n None) no_copies).control.halt ≢ Some Stuck) (sym main.1)
         (never k (begins_with (Some main.0) input n None) no_copies (first main.0 input n main.1 main.2))
+
+    typed_from_start : (k : ℕ) (input : List ℕ) (turns : ℕ) → HasForm_at k (start p.core input turns) no_copies
+    typed_from_start k input zero =
+        let main = sh.main in
+        subst (λ (o : Option Fun). HasForm_at k (begins_with o input zero (Some (Ends end.Spent))) no_copies) (sym main.1)
+        (λ none s. absurd (let z : Some (Ends end.Spent) ≡ None =
+        sym (halted k (begins_with (Some main.0) input zero (Some (Ends end.Spent))) no_copies (Ends end.Spent) refl) ∙ none in cc))
+    typed_from_start k input (suc n) =
+        let main = sh.main in
+        subst (λ (o : Option Fun). HasForm_at k (begins_with o input n None) no_copies) (sym main.1)
+        (typed_at k (begins_with (Some main.0) input n None) no_copies (first main.0 input n main.1 main.2))
+
+pub stay_in_range : IntegersStayInRange
+stay_in_range r sh k none l q t n e =
+    let x = typed_from_start (setting r) sh k r.input r.turns none (record { key = l; path = q }) in
+    let fits : Fits r.core.types x.0 (Number t n) = subst (Fits r.core.types x.0) e x.1 in
+    fits.1
 
 pub never_stuck : ShapedIsNeverStuck
 never_stuck r sh k = from_start (setting r) sh k r.input r.turns

@@ -4,9 +4,10 @@ use Rattle.hy_types.specs.declared.kinds.TyId.{TyId}
 use Rattle.hy_types.specs.declared.kinds.Ty.{Ty}
 use Rattle.hy_types.specs.declared.kinds.Ty.TheVariants as ty
 use Rattle.hy_types.specs.Types.{Table, row_at, declared}
-use Rattle.hy_core.specs.Values.{Val, Unset, Number, Truth, Tuple, Product, Array, Vals, No, And, Path, many, nth, with_nth, part, with_part, get, put}
+use Rattle.hy_core.specs.Values.{Val, Unset, Number, Truth, Tuple, Product, Array, Vals, No, And, Selector, PartAt, ElementAt, Path, many, nth, with_nth}
+use Rattle.hy_core.specs.Values.{part, with_part, get, put}
 use Rattle.hy_core.specs.Memory.{Key, Spot, Way, Reads, Writes, Origin, Copies, set_at, put_back, close_copy, lend_copy}
-use Rattle.hy_core.specs.Operators.{at_end, popped, blanks}
+use Rattle.hy_core.specs.Operators.{InRange, at_end, popped, blanks}
 use Rattle.hy_core.specs.Control.{Form, Numbers, Flags, Tuples, Products, Arrays, Unknown, product_form, form_of, form}
 use Rattle.hy_core.specs.Statements.{swapped}
 use Rattle.hy_core.proofs.Keys.{at_key}
@@ -19,13 +20,16 @@ module _ (types : Table) where
   form_at (Some t) = form types t
 
   -- of a part or element
-  abbrev pub sub : Form → ℕ → Form
-  sub Numbers i = Unknown
-  sub Flags i = Unknown
-  sub (Tuples parts) i = form_at (slice_get parts i)
-  sub (Products d parts) i = form_at (slice_get parts i)
-  sub (Arrays t) i = form types t
-  sub Unknown i = Unknown
+  abbrev pub sub : Form → Selector → Form
+  sub (Numbers k) s = Unknown
+  sub Flags s = Unknown
+  sub (Tuples parts) (PartAt i) = form_at (slice_get parts i)
+  sub (Tuples parts) (ElementAt i) = Unknown
+  sub (Products d parts) (PartAt i) = form_at (slice_get parts i)
+  sub (Products d parts) (ElementAt i) = Unknown
+  sub (Arrays t) (PartAt i) = Unknown
+  sub (Arrays t) (ElementAt i) = form types t
+  sub Unknown s = Unknown
 
   abbrev pub form_on : Form → Path → Form
   form_on f [] = f
@@ -46,6 +50,7 @@ module _ (types : Table) where
       row : (o : Option Ty) → form_of types o ≡ Products d parts → declared types d ≡ Some parts
       row None e = absurd (cc)
       row (Some ty.Int) e = absurd (cc)
+      row (Some (ty.Sized num)) e = absurd (cc)
       row (Some ty.Bool) e = absurd (cc)
       row (Some (ty.Tuple ps)) e = absurd (cc)
       row (Some (ty.Product k)) e = found k (declared types k) refl e
@@ -57,7 +62,7 @@ module _ (types : Table) where
   abbrev mutual
     pub Fits : Form → Val → Type 0
     Fits f Unset = Unit {0}
-    Fits f (Number n) = f ≡ Numbers
+    Fits f (Number t n) = (f ≡ Numbers t) × InRange t n
     Fits f (Truth b) = f ≡ Flags
     Fits f (Tuple vs) = (parts : List TyId) × (f ≡ Tuples parts) × FitsAll parts vs
     Fits f (Product d vs) = (parts : List TyId) × (f ≡ Products d parts) × (declared types d ≡ Some parts) × FitsAll parts vs
@@ -103,21 +108,27 @@ module _ (types : Table) where
   each_with_nth t zero w (And v vs) h g = (g, h.1)
   each_with_nth t (suc i) w (And v vs) h g = (h.0, each_with_nth t i w vs h.1 g)
 
-  pub fits_part : (f : Form) (i : ℕ) (v : Val) → Fits f v → Fits (sub f i) (part i v)
-  fits_part f i Unset h = tt
-  fits_part f i (Number n) h = tt
-  fits_part f i (Truth b) h = tt
-  fits_part f i (Tuple vs) h = subst (λ f. Fits (sub f i) (nth i vs)) (sym h.1) (fits_nth h.0 i vs h.2)
-  fits_part f i (Product d vs) h = subst (λ f. Fits (sub f i) (nth i vs)) (sym h.1) (fits_nth h.0 i vs h.3)
-  fits_part f i (Array vs) h = subst (λ f. Fits (sub f i) (nth i vs)) (sym h.1) (each_nth h.0 i vs h.2)
+  pub fits_part : (f : Form) (s : Selector) (v : Val) → Fits f v → Fits (sub f s) (part s v)
+  fits_part f s Unset h = tt
+  fits_part f s (Number t n) h = tt
+  fits_part f s (Truth b) h = tt
+  fits_part f (PartAt i) (Tuple vs) h = subst (λ f. Fits (sub f (PartAt i)) (nth i vs)) (sym h.1) (fits_nth h.0 i vs h.2)
+  fits_part f (ElementAt i) (Tuple vs) h = tt
+  fits_part f (PartAt i) (Product d vs) h = subst (λ f. Fits (sub f (PartAt i)) (nth i vs)) (sym h.1) (fits_nth h.0 i vs h.3)
+  fits_part f (ElementAt i) (Product d vs) h = tt
+  fits_part f (PartAt i) (Array vs) h = tt
+  fits_part f (ElementAt i) (Array vs) h = subst (λ f. Fits (sub f (ElementAt i)) (nth i vs)) (sym h.1) (each_nth h.0 i vs h.2)
 
-  fits_with : (f : Form) (i : ℕ) (w v : Val) → Fits f v → Fits (sub f i) w → Fits f (with_part i w v)
-  fits_with f i w Unset h g = tt
-  fits_with f i w (Number n) h g = h
-  fits_with f i w (Truth b) h g = h
-  fits_with f i w (Tuple vs) h g = (h.0, h.1, fits_with_nth h.0 i w vs h.2 (subst (λ f. Fits (sub f i) w) h.1 g))
-  fits_with f i w (Product d vs) h g = (h.0, h.1, h.2, fits_with_nth h.0 i w vs h.3 (subst (λ f. Fits (sub f i) w) h.1 g))
-  fits_with f i w (Array vs) h g = (h.0, h.1, each_with_nth h.0 i w vs h.2 (subst (λ f. Fits (sub f i) w) h.1 g))
+  fits_with : (f : Form) (s : Selector) (w v : Val) → Fits f v → Fits (sub f s) w → Fits f (with_part s w v)
+  fits_with f s w Unset h g = tt
+  fits_with f s w (Number t n) h g = h
+  fits_with f s w (Truth b) h g = h
+  fits_with f (PartAt i) w (Tuple vs) h g = (h.0, h.1, fits_with_nth h.0 i w vs h.2 (subst (λ f. Fits (sub f (PartAt i)) w) h.1 g))
+  fits_with f (ElementAt i) w (Tuple vs) h g = h
+  fits_with f (PartAt i) w (Product d vs) h g = (h.0, h.1, h.2, fits_with_nth h.0 i w vs h.3 (subst (λ f. Fits (sub f (PartAt i)) w) h.1 g))
+  fits_with f (ElementAt i) w (Product d vs) h g = h
+  fits_with f (PartAt i) w (Array vs) h g = h
+  fits_with f (ElementAt i) w (Array vs) h g = (h.0, h.1, each_with_nth h.0 i w vs h.2 (subst (λ f. Fits (sub f (ElementAt i)) w) h.1 g))
 
   pub fits_get : (f : Form) (q : Path) (v : Val) → Fits f v → Fits (form_on f q) (get q v)
   fits_get f [] v h = h
@@ -137,7 +148,8 @@ module _ (types : Table) where
   each_end t No v h g = (g, tt)
   each_end t (And w ws) v h g = (h.0, each_end t ws v h.1 g)
 
-  pub each_popped : (t : TyId) (v : Val) (vs : Vals) → Fits (form types t) v → FitsEach t vs → FitsEach t (popped v vs).rest × Fits (form types t) (popped v vs).last
+  pub each_popped : (t : TyId) (v : Val) (vs : Vals) → Fits (form types t) v → FitsEach t vs → FitsEach t (popped v vs).rest
+      × Fits (form types t) (popped v vs).last
   each_popped t v No g h = (tt, g)
   each_popped t v (And w ws) g h = let r = each_popped t w ws h.0 h.1 in ((g, r.0), r.1)
 
@@ -158,17 +170,25 @@ module _ (types : Table) where
     pub typed_store : (s : Spot) (v : Val) → s.key.act < n → Fits (form_on (forms s.key) s.path) v
         → IsTyped forms n (record { opened = m.opened; value = set_at m.value s.key (put s.path v (m.value s.key)) })
     typed_store s v lt g = record {
-      value = λ k. at_key m.value s.key _ k (Fits (forms k)) (λ e. subst (λ k. Fits (forms k) (put s.path v (m.value s.key))) (sym e) (fits_put (forms s.key) s.path v (m.value s.key) (h.value s.key) g)) (λ n. h.value k);
+      value = λ k. at_key m.value s.key _ k (Fits (forms k))
+          (λ e. subst (λ k. Fits (forms k) (put s.path v (m.value s.key))) (sym e) (fits_put (forms s.key) s.path v (m.value s.key) (h.value s.key) g))
+          (λ n. h.value k);
       origin = h.origin;
-      fresh = λ k le. at_key m.value s.key _ k (λ v. v ≡ Unset) (λ e. absurd (let f : k.act ≡ s.key.act = ap (λ k. k.act) e in omega arith)) (λ _. h.fresh k le);
+      fresh = λ k le. at_key m.value s.key _ k (λ v. v ≡ Unset) (λ e. absurd (let f : k.act ≡ s.key.act = ap (λ k. k.act) e in omega arith))
+          (λ _. h.fresh k le);
     }
 
     pub typed_lend : (k : Key) (s : Spot) (w : Way) → k.act < n → s.key.act < n → forms k ≡ form_on (forms s.key) s.path → IsTyped forms n (lend_copy m k s w)
     typed_lend k s w lt ls e = record {
-      value = λ j. at_key m.value k _ j (Fits (forms j)) (λ q. subst (λ f. Fits f (get s.path (m.value s.key))) (sym (ap forms q ∙ e)) (typed_read s)) (λ _. h.value j);
+      value = λ j. at_key m.value k _ j (Fits (forms j)) (λ q. subst (λ f. Fits f (get s.path (m.value s.key))) (sym (ap forms q ∙ e)) (typed_read s))
+          (λ _. h.value j);
       origin = λ j o. at_key m.opened k _ j (λ y. y ≡ Some o → (j.act < n) × (o.base.act < n) × (forms j ≡ form_on (forms o.base) o.path))
           (λ q y. let z : record { base = s.key; path = s.path; way = w } ≡ o = some_is _ _ y in
-          subst (λ (o : Origin). (j.act < n) × (o.base.act < n) × (forms j ≡ form_on (forms o.base) o.path)) z (subst (λ (j : Key). j.act < n) (sym q) lt, ls, ap forms q ∙ e)) (λ _ y. h.origin j o y);
+          subst (λ (o : Origin). (j.act < n) × (o.base.act < n) × (forms j ≡ form_on (forms o.base) o.path)) z (
+            subst (λ (j : Key). j.act < n) (sym q) lt,
+            ls,
+            ap forms q ∙ e,
+          )) (λ _ y. h.origin j o y);
       fresh = λ j le. at_key m.value k _ j (λ v. v ≡ Unset) (λ q. absurd (let f : j.act ≡ k.act = ap (λ k. k.act) q in omega arith)) (λ _. h.fresh j le);
     }
       where
@@ -179,14 +199,16 @@ module _ (types : Table) where
         → IsTyped forms n (record { opened = set_at m.opened k None; value = set_at value k Unset })
     typed_unset value k all_fit fresh = record {
       value = λ j. at_key value k Unset j (Fits (forms j)) (λ _. tt) (λ _. all_fit j);
-      origin = λ j o. at_key m.opened k None j (λ y. y ≡ Some o → (j.act < n) × (o.base.act < n) × (forms j ≡ form_on (forms o.base) o.path)) (λ q y. absurd (cc)) (λ _ y. h.origin j o y);
+      origin = λ j o. at_key m.opened k None j (λ y. y ≡ Some o → (j.act < n) × (o.base.act < n)
+          × (forms j ≡ form_on (forms o.base) o.path)) (λ q y. absurd (cc)) (λ _ y. h.origin j o y);
       fresh = λ j le. at_key value k Unset j (λ v. v ≡ Unset) (λ _. refl) (λ _. fresh j le);
     }
 
     pub typed_close : (k : Key) → IsTyped forms n (close_copy m k (m.opened k))
     typed_close k = go (m.opened k) refl
       where
-        back : (o : Origin) (w : Way) → m.opened k ≡ Some o → IsTyped forms n (record { opened = set_at m.opened k None; value = set_at (put_back m.value k o w) k Unset })
+        back : (o : Origin) (w : Way) → m.opened k ≡ Some o
+            → IsTyped forms n (record { opened = set_at m.opened k None; value = set_at (put_back m.value k o w) k Unset })
         back o Reads e = typed_unset m.value k h.value h.fresh
         back o Writes e =
             let at = h.origin k o e in

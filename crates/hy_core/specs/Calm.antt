@@ -2,7 +2,7 @@
 use Rattle.std.specs.Prelude.{◌≡◌, ◌≢◌, ℕ, zero, suc, None, Some}
 use Rattle.hy_core.specs.Values.{Apart, Within, shape, IsThere}
 use Rattle.hy_core.specs.Memory.{Key, Spot, Way, Reads, Writes, Origin, Copies, copying}
-use Rattle.hy_core.specs.Runs.{Op, Store, Change, Clear, Lend, Hand, Close, Quit, Talk, Ask, Look, Tell, Next, apply, interpret}
+use Rattle.hy_core.specs.Runs.{Effect, Store, Change, Clear, Lend, Hand, Close, Quit, Interaction, Fetch, Inspect, Perform, Return, apply, interpret}
 
 -- what is open from the local
 abbrev pub EachOpen : Copies → Key → (Key → Origin → Type 0) → Type 0
@@ -21,7 +21,7 @@ abbrev pub IsWritable : Copies → Key → Type 0
 IsWritable m k = (o : Origin) → m.opened k ≡ Some o → o.way ≡ Writes
 
 -- what stands at the top of the place may be looked at: it is not within a place that is open for change
-pub record MayLook (m : Copies) (s : Spot) : Type 0 where
+pub record MayInspect (m : Copies) (s : Spot) : Type 0 where
   pub kept : IsKept m s.key
   pub clear : EachOpen m s.key (λ c o. o.way ≡ Writes → Within o.path s.path → ⊥)
 
@@ -65,7 +65,7 @@ pub record MayClose (m : Copies) (k : Key) : Type 0 where
   pub opened : m.opened k ≡ Some origin
   pub shut : IsShut m k
 
-abbrev pub May : Op → Copies → Type 0
+abbrev pub May : Effect → Copies → Type 0
 May (Store s v) m = MayWrite m s
 May (Change s v) m = MayWrite m s
 May (Clear s) m = MayWrite m s
@@ -75,13 +75,13 @@ May (Close k) m = MayClose m k
 May (Quit a n) m = Unit {0}
 
 -- each question and each operation of the step is allowed
-abbrev pub IsCalm : {C : Type 0} → Talk C → Copies → Type 0
-IsCalm (Ask s go) m = MayRead m s × IsCalm (go (copying.read m s)) m
-IsCalm (Look s go) m = MayLook m s × IsCalm (go (shape (copying.read m s))) m
-IsCalm (Tell op t) m = May op m × IsCalm t (apply copying op m)
-IsCalm (Next c) m = Unit {0}
+abbrev pub IsCalm : {C : Type 0} → Interaction C → Copies → Type 0
+IsCalm (Fetch s go) m = MayRead m s × IsCalm (go (copying.read m s)) m
+IsCalm (Inspect s go) m = MayInspect m s × IsCalm (go (shape (copying.read m s))) m
+IsCalm (Perform op t) m = May op m × IsCalm t (apply copying op m)
+IsCalm (Return c) m = Unit {0}
 
 -- the copying run is calm for n steps
-abbrev pub StaysCalm : {C : Type 0} → (C → Talk C) → ℕ → C → Copies → Type 0
-StaysCalm talk zero c m = Unit {0}
-StaysCalm talk (suc n) c m = let s = interpret copying (talk c) m in IsCalm (talk c) m × StaysCalm talk n s.control s.memory
+abbrev pub StaysCalm : {C : Type 0} → (C → Interaction C) → ℕ → C → Copies → Type 0
+StaysCalm interaction zero c m = Unit {0}
+StaysCalm interaction (suc n) c m = let s = interpret copying (interaction c) m in IsCalm (interaction c) m × StaysCalm interaction n s.control s.memory

@@ -5,6 +5,11 @@ use Rattle.hy_core.specs.Plain as P
 use Rattle.hy_core.specs.declared.program.Core.{Core}
 use Rattle.hy_core.specs.declared.program.Checked.{Checked}
 use Rattle.hy_core.specs.declared.program.CoreFun.{CoreFun}
+use Rattle.hy_core.specs.declared.program.CoreParameter.{CoreParameter}
+use Rattle.hy_core.specs.declared.program.CoreConvention.{CoreConvention}
+use Rattle.hy_core.specs.declared.program.CoreConvention.TheVariants as convention
+use Rattle.hy_core.specs.declared.program.CoreWay.{CoreWay}
+use Rattle.hy_core.specs.declared.program.CoreWay.TheVariants as way
 use Rattle.hy_core.specs.declared.program.CorePlace.{CorePlace}
 use Rattle.hy_core.specs.declared.program.CoreStep.{CoreStep}
 use Rattle.hy_core.specs.declared.program.CoreStep.TheVariants as step
@@ -27,6 +32,7 @@ op_of op.Mul = P.Mul
 op_of op.Div = P.Div
 op_of op.Rem = P.Rem
 op_of op.Neg = P.Neg
+op_of (op.Convert t) = P.Convert t
 op_of op.Eq = P.Eq
 op_of op.Lt = P.Lt
 op_of op.Le = P.Le
@@ -68,8 +74,28 @@ abbrev pub stmts_of : List CoreStmt → P.Stmts
 stmts_of [] = P.Done
 stmts_of (s ∷ more) = P.Then (stmt_of s) (stmts_of more)
 
+abbrev pub way_of : CoreWay → P.Way
+way_of way.Read = P.Reads
+way_of way.Write = P.Writes
+
+abbrev pub convention_of : CoreConvention → P.Convention
+convention_of convention.Let = P.ByLet
+convention_of convention.Inout = P.ByInout
+convention_of convention.Set = P.BySet
+
+abbrev pub parameter_of : CoreParameter → P.Parameter
+parameter_of a = record { type = a.ty; convention = convention_of a.convention }
+
 abbrev pub fun_of : CoreFun → P.Fun
-fun_of f = record { lent = f.lent; owned = f.owned; result = f.result; locals = f.locals; ramp = f.ramp; body = stmts_of f.body }
+fun_of f = record {
+  lent = map parameter_of f.lent;
+  owned = f.owned;
+  result = f.result;
+  locals = f.locals;
+  yields = option_map way_of f.yields;
+  body =
+      stmts_of f.body;
+}
 
 abbrev pub core_of : Core → P.Core
 core_of c = record {

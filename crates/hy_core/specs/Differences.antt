@@ -1,8 +1,8 @@
 -- Small cores that are not calm, each in one way, and on each of which the two memories differ.
 use Rattle.std.specs.Prelude.{◌≡◌, true, false, List, [], ◌∷◌, ℤ, pos}
-use Rattle.hy_core.specs.Plain.{Stmt, Set, Lend, Close, Move, Drop, Call, Project, Slide, Yield, Leave, Fun, Core}
+use Rattle.hy_core.specs.Plain.{Stmt, Set, Lend, Close, Move, Drop, Call, Project, Slide, Yield, Leave, Reads, Writes, Fun, Core}
 use Rattle.hy_core.specs.Meaning.{copied, lent}
-use Rattle.hy_core.specs.Notation.{of, part, print, int, unit, number, pair, numbers_for, fun, ramp, main, core, checked, lines}
+use Rattle.hy_core.specs.Notation.{of, part, print, int, let_of, inout_of, unit, number, pair, numbers_for, fun, ramp, main, core, checked, lines}
 
 -- local 0 is for `()`, 1 to 4 are numbers, 5 and 6 are pairs of numbers
 abbrev pub body : List Stmt → Fun
@@ -27,12 +27,12 @@ changed_by_reader = core (body (int 1 1 ∷ Lend 2 (of 1) false ∷ int 2 7 ∷ 
 -- in the body that it was lent to
 abbrev pub changed_by_callee : Core
 changed_by_callee = core (body (int 1 1 ∷ Lend 2 (of 1) false ∷ Call 1 (2 ∷ []) [] (of 0) ∷ Close 2 ∷ print (of 1) ∷ [])
-    ∷ fun (number ∷ []) [] unit (unit ∷ []) (int 0 7 ∷ Set (of 1) (pos 0) ∷ Leave (of 1) ∷ []) ∷ [])
+    ∷ fun (let_of number ∷ []) [] unit (unit ∷ []) (int 0 7 ∷ Set (of 1) (pos 0) ∷ Leave (of 1) ∷ []) ∷ [])
 
 -- in the body that a subscript yielded it to
 abbrev pub changed_by_projection : Core
 changed_by_projection = core (body (int 1 1 ∷ Lend 2 (of 1) true ∷ Project 1 (2 ∷ []) [] 3 ∷ int 3 7 ∷ Slide 3 ∷ Close 2 ∷ print (of 1) ∷ [])
-    ∷ ramp (number ∷ []) [] number (number ∷ unit ∷ []) (Lend 1 (of 0) false ∷ Yield 1 ∷ Close 1 ∷ Set (of 2) (pos 0) ∷ Leave (of 2) ∷ []) ∷ [])
+    ∷ ramp Reads (inout_of number ∷ []) [] number (number ∷ unit ∷ []) (Lend 1 (of 0) false ∷ Yield 1 ∷ Close 1 ∷ Set (of 2) (pos 0) ∷ Leave (of 2) ∷ []) ∷ [])
 
 -- it is lent on for change
 abbrev pub lent_on_by_reader : Core
@@ -69,12 +69,12 @@ closed_shut = core (body (int 1 1 ∷ Close 1 ∷ print (of 1) ∷ []) ∷ [])
 -- a local is handed over from which a place is open
 abbrev pub handed_over : Core
 handed_over = core (body (a_pair (Lend 6 (of 5) true ∷ Lend 2 (part 6 0) true ∷ int 2 7 ∷ Call 1 (6 ∷ []) [] (of 0) ∷ []))
-    ∷ fun (pair ∷ []) [] unit (unit ∷ []) (print (part 0 0) ∷ Set (of 1) (pos 0) ∷ Leave (of 1) ∷ []) ∷ [])
+    ∷ fun (let_of pair ∷ []) [] unit (unit ∷ []) (print (part 0 0) ∷ Set (of 1) (pos 0) ∷ Leave (of 1) ∷ []) ∷ [])
 
 -- a local is yielded from which a place is open
 abbrev pub yielded_over : Core
 yielded_over = core (body (a_pair (Lend 6 (of 5) true ∷ Project 1 (6 ∷ []) [] 2 ∷ print (of 2) ∷ []))
-    ∷ ramp (pair ∷ []) [] number (number ∷ number ∷ unit ∷ []) (Lend 1 (part 0 0) true ∷ Lend 2 (of 1) true ∷ int 2 7 ∷ Yield 1 ∷ []) ∷ [])
+    ∷ ramp Writes (inout_of pair ∷ []) [] number (number ∷ number ∷ unit ∷ []) (Lend 1 (part 0 0) true ∷ Lend 2 (of 1) true ∷ int 2 7 ∷ Yield 1 ∷ []) ∷ [])
 
 -- what the two memories print
 abbrev pub Prints : Core → (copies cells : List ℤ) → Type 0

@@ -3,10 +3,13 @@ use Rattle.std.specs.Prelude.{◌≡◌, ℕ, Bool, true, false, List, [], ◌�
 use Rattle.hy_base.specs.declared.run.End.TheVariants as end
 use Rattle.hy_base.specs.declared.run.TrapKind.{TrapKind}
 use Rattle.hy_base.specs.declared.run.TrapKind.TheVariants as trap
-use Rattle.hy_core.specs.Plain.{Operator, Add, Sub, Mul, Div, Rem, Eq, Lt, NewArray, Push, Pop, Swap, Count, Print, Read, Check, Done, Stmt, Built, Set, Lend, Close, Move, Copy, Drop, Call, Project, Slide, Yield, If, While, Break, Continue, Leave, Fun, Core}
+use Rattle.hy_core.specs.Plain.{Operator, Add, Sub, Mul, Div, Rem, Eq, Lt, NewArray, Push, Pop, Swap, Count, Print, Read, Check, Done, Stmt, Built, Set}
+use Rattle.hy_core.specs.Plain.{Lend, Close, Move, Copy, Drop, Call, Project, Slide, Yield, If, While, Break, Continue, Leave, Reads, Writes, Fun, Core}
 use Rattle.hy_core.specs.Control.{Ends, Deinitialises}
 use Rattle.hy_core.specs.Meaning.{Report, Run, copied, lent}
-use Rattle.hy_core.specs.Notation.{of, part, deep, item, push, stmts, print, compute, tell, int, unit, number, truth, pair, numbers, cell, dying, dyings, rows, tree, two, numbers_for, fun, ramp, main, index_span, trap_span, core, dying_core, checked, unchecked, done, ended}
+use Rattle.hy_core.specs.Notation.{of, part, deep, item, push, stmts, print, compute, tell, int, let_of, inout_of, set_of, unit, number, truth, pair}
+use Rattle.hy_core.specs.Notation.{numbers, cell, dying, dyings, rows, tree, two, numbers_for, fun, ramp, main, index_span, trap_span, core, dying_core}
+use Rattle.hy_core.specs.Notation.{checked, unchecked, done, ended}
 
 -- both runs show this after so many steps
 abbrev pub Shows : Run → ℕ → Report → Type 0
@@ -27,30 +30,30 @@ a_field = core (main (unit ∷ pair ∷ number ∷ []) (
 abbrev pub an_element : Core
 an_element = core (main (unit ∷ numbers ∷ number ∷ number ∷ number ∷ []) (
     tell NewArray 1 [] ∷ int 2 5 ∷ push 1 2 ∷ int 2 6 ∷ push 1 2 ∷ int 3 1
-    ∷ Lend 4 (item 1 3) true ∷ int 4 9 ∷ Close 4 ∷ print (item 1 3) ∷ int 3 2 ∷ print (item 1 3) ∷ leave 0) ∷ [])
+    ∷ Lend 4 (item 1 3) true ∷ int 4 9 ∷ Close 4 ∷ print (item 1 3) ∷ int 3 2 ∷ print (item 1 3) ∷ Drop (of 3) ∷ Drop (of 1) ∷ leave 0) ∷ [])
 
 -- fun sum(_ a: Int, _ b: Int) { print(a + b) }: var x = 4; sum(x, x)
 abbrev pub read_twice : Core
 read_twice = core (main (unit ∷ number ∷ number ∷ number ∷ []) (
     int 1 4 ∷ Lend 2 (of 1) false ∷ Lend 3 (of 1) false ∷ Call 1 (2 ∷ 3 ∷ []) [] (of 0) ∷ Close 3 ∷ Close 2 ∷ Drop (of 0) ∷ Drop (of 1) ∷ leave 0)
-    ∷ fun (number ∷ number ∷ []) [] unit (number ∷ unit ∷ []) (compute Add 2 (of 0 ∷ of 1 ∷ []) ∷ print (of 2) ∷ Drop (of 2) ∷ leave 3) ∷ [])
+    ∷ fun (let_of number ∷ let_of number ∷ []) [] unit (number ∷ unit ∷ []) (compute Add 2 (of 0 ∷ of 1 ∷ []) ∷ print (of 2) ∷ Drop (of 2) ∷ leave 3) ∷ [])
 
 -- fun g(_ x: inout Int) -> Int { x += 1; return 10 }  fun f(_ a: Int, _ b: Int) -> Int { return a + b }
--- var x = 1; print(f(x, g(&x))): x is opened behind the call of g
+-- var x = 1; print(f(x, g(&x))): x is opened after the call of g
 abbrev pub an_inout : Core
 an_inout = core (main (unit ∷ number ∷ number ∷ number ∷ number ∷ number ∷ number ∷ []) (
     int 1 1 ∷ Lend 2 (of 1) true ∷ Call 1 (2 ∷ []) [] (of 3) ∷ Close 2
     ∷ Lend 4 (of 1) false ∷ Lend 5 (of 3) false ∷ Call 2 (4 ∷ 5 ∷ []) [] (of 6) ∷ Close 5 ∷ Close 4 ∷ print (of 6)
     ∷ Drop (of 6) ∷ Drop (of 3) ∷ Drop (of 1) ∷ leave 0)
-    ∷ fun (number ∷ []) [] number (number ∷ number ∷ []) (int 1 1 ∷ compute Add 0 (of 0 ∷ of 1 ∷ []) ∷ Drop (of 1) ∷ int 2 10 ∷ Leave (of 2) ∷ [])
-    ∷ fun (number ∷ number ∷ []) [] number (number ∷ []) (compute Add 2 (of 0 ∷ of 1 ∷ []) ∷ Leave (of 2) ∷ []) ∷ [])
+    ∷ fun (inout_of number ∷ []) [] number (number ∷ number ∷ []) (int 1 1 ∷ compute Add 0 (of 0 ∷ of 1 ∷ []) ∷ Drop (of 1) ∷ int 2 10 ∷ Leave (of 2) ∷ [])
+    ∷ fun (let_of number ∷ let_of number ∷ []) [] number (number ∷ []) (compute Add 2 (of 0 ∷ of 1 ∷ []) ∷ Leave (of 2) ∷ []) ∷ [])
 
 -- fun begin(_ x: set Int) { x = 7 }: var p: (Int, Int), of which nothing is set; begin(&p.0); p.1 = 8; begin(&p.1) with the old value given up
 abbrev pub a_set : Core
-a_set = core (main (unit ∷ pair ∷ number ∷ []) (
+a_set = core (main (unit ∷ pair ∷ number ∷ number ∷ []) (
     Lend 2 (part 1 0) true ∷ Call 1 (2 ∷ []) [] (of 0) ∷ Close 2 ∷ print (part 1 0) ∷ Set (part 1 1) (pos 8) ∷ print (part 1 1)
-    ∷ Lend 2 (part 1 1) true ∷ Drop (of 2) ∷ Call 1 (2 ∷ []) [] (of 0) ∷ Close 2 ∷ print (part 1 1) ∷ Drop (of 1) ∷ leave 0)
-    ∷ fun (number ∷ []) [] unit (unit ∷ []) (int 0 7 ∷ leave 1) ∷ [])
+    ∷ Lend 3 (part 1 1) true ∷ Drop (of 3) ∷ Call 1 (3 ∷ []) [] (of 0) ∷ Close 3 ∷ print (part 1 1) ∷ Drop (of 1) ∷ leave 0)
+    ∷ fun (set_of number ∷ []) [] unit (unit ∷ []) (int 0 7 ∷ leave 1) ∷ [])
 
 -- var p = (1, 2); var q = p.copy(); p.0 = 9; print(q.0); print(p.0)
 abbrev pub a_copy : Core
@@ -62,7 +65,7 @@ a_copy = core (main (unit ∷ pair ∷ pair ∷ []) (
 
 -- subscript s(_ k: Int, _ x: yielded Int): Int { inout { print(k); yield &x; print(k + 100) } }
 abbrev pub talking : Fun
-talking = ramp (number ∷ number ∷ []) [] number (number ∷ number ∷ unit ∷ []) (
+talking = ramp Writes (let_of number ∷ inout_of number ∷ []) [] number (number ∷ number ∷ unit ∷ []) (
     print (of 0) ∷ Lend 2 (of 1) true ∷ Yield 2 ∷ Close 2 ∷ int 3 100 ∷ compute Add 3 (of 0 ∷ of 3 ∷ []) ∷ print (of 3) ∷ Drop (of 3) ∷ leave 4)
 
 -- inout a = &s[k, &x], with k in a local of its own: the argument k, the argument x, the yield and the projection are opened
@@ -97,37 +100,39 @@ abbrev pub part_at_close : Core
 part_at_close = core (main (unit ∷ cell ∷ cell ∷ number ∷ number ∷ number ∷ []) (
     Set (part 1 0) (pos 250) ∷ Lend 2 (of 1) true ∷ Project 1 (2 ∷ []) [] 3 ∷ Lend 4 (of 3) true ∷ add_to 4 5 1 ++ print (of 4) ∷ Close 4 ∷ Slide 3 ∷ Close 2
     ∷ print (part 1 0) ∷ Drop (of 1) ∷ leave 0)
-    ∷ ramp (cell ∷ []) [] number (number ∷ number ∷ number ∷ unit ∷ []) (
+    ∷ ramp Writes (inout_of cell ∷ []) [] number (number ∷ number ∷ number ∷ unit ∷ []) (
     int 2 10 ∷ compute Div 1 (part 0 0 ∷ of 2 ∷ []) ∷ Lend 3 (of 1) true ∷ Yield 3 ∷ Close 3 ∷ Built Mul (Some (part 0 0)) (of 1 ∷ of 2 ∷ []) (1 ∷ [])
     ∷ Drop (of 2) ∷ Drop (of 1) ∷ leave 4) ∷ [])
 
 -- a slide that adds what was yielded to itself: var u = 1; inout a = &t[&u]; a = 2^63 - 1; then an overflow where it closes
 abbrev pub trap_in_slide : Core
 trap_in_slide = core (main (unit ∷ number ∷ number ∷ number ∷ []) (
-    int 1 1 ∷ print (of 1) ∷ Lend 2 (of 1) true ∷ Project 1 (2 ∷ []) [] 3 ∷ int 3 9223372036854775807 ∷ Slide 3 ∷ Close 2 ∷ print (of 1) ∷ Drop (of 1) ∷ leave 0)
-    ∷ ramp (number ∷ []) [] number (number ∷ unit ∷ []) (Lend 1 (of 0) true ∷ Yield 1 ∷ Close 1 ∷ compute Add 0 (of 0 ∷ of 0 ∷ []) ∷ leave 2) ∷ [])
+    int 1 1 ∷ print (of 1) ∷ Lend 2 (of 1) true ∷ Project 1 (2 ∷ []) [] 3 ∷ int 3 9223372036854775807 ∷ Slide 3 ∷ Close 2 ∷ print (of 1) ∷ Drop (of 1) ∷
+    leave 0)
+    ∷ ramp Writes (inout_of number ∷ []) [] number (number ∷ unit ∷ []) (Lend 1 (of 0) true ∷ Yield 1 ∷ Close 1 ∷ compute Add 0 (of 0 ∷ of 0 ∷ []) ∷
+    leave 2) ∷ [])
 
 -- type Cell { var v: Int  subscript at(): Int { let { yield v }  inout { yield &v }  set(new_value) { print(-1); v = new_value } } }
 -- var c = Cell(v: 1); c.at[] = 5; c.at[] += 2; print(c.at[])
 abbrev pub a_set_variant : Core
-a_set_variant = core (main (unit ∷ cell ∷ cell ∷ number ∷ number ∷ number ∷ []) (
+a_set_variant = core (main (unit ∷ cell ∷ cell ∷ number ∷ number ∷ number ∷ cell ∷ cell ∷ number ∷ []) (
     Set (part 1 0) (pos 1)
     ∷ int 3 5 ∷ Lend 2 (of 1) true ∷ Call 1 (2 ∷ []) (of 3 ∷ []) (of 0) ∷ Close 2 ∷ Drop (of 0)
-    ∷ int 5 2 ∷ Lend 2 (of 1) true ∷ Project 2 (2 ∷ []) [] 4 ∷ compute Add 4 (of 4 ∷ of 5 ∷ []) ∷ Slide 4 ∷ Close 2 ∷ Drop (of 5)
-    ∷ Lend 2 (of 1) false ∷ Project 3 (2 ∷ []) [] 4 ∷ print (of 4) ∷ Slide 4 ∷ Close 2 ∷ Drop (of 1) ∷ leave 0)
-    ∷ fun (cell ∷ []) (number ∷ []) unit (number ∷ unit ∷ []) (Set (of 2) (negsuc 0) ∷ print (of 2) ∷ Drop (of 2) ∷ Move (part 0 0) (of 1) ∷ leave 3)
-    ∷ ramp (cell ∷ []) [] number (number ∷ unit ∷ []) (Lend 1 (part 0 0) true ∷ Yield 1 ∷ Close 1 ∷ leave 2)
-    ∷ ramp (cell ∷ []) [] number (number ∷ unit ∷ []) (Lend 1 (part 0 0) false ∷ Yield 1 ∷ Close 1 ∷ leave 2) ∷ [])
+    ∷ int 5 2 ∷ Lend 6 (of 1) true ∷ Project 2 (6 ∷ []) [] 4 ∷ compute Add 4 (of 4 ∷ of 5 ∷ []) ∷ Slide 4 ∷ Close 6 ∷ Drop (of 5)
+    ∷ Lend 7 (of 1) false ∷ Project 3 (7 ∷ []) [] 8 ∷ print (of 8) ∷ Slide 8 ∷ Close 7 ∷ Drop (of 1) ∷ leave 0)
+    ∷ fun (inout_of cell ∷ []) (number ∷ []) unit (number ∷ unit ∷ []) (Set (of 2) (negsuc 0) ∷ print (of 2) ∷ Drop (of 2) ∷ Move (part 0 0) (of 1) ∷ leave 3)
+    ∷ ramp Writes (inout_of cell ∷ []) [] number (number ∷ unit ∷ []) (Lend 1 (part 0 0) true ∷ Yield 1 ∷ Close 1 ∷ leave 2)
+    ∷ ramp Reads (let_of cell ∷ []) [] number (number ∷ unit ∷ []) (Lend 1 (part 0 0) false ∷ Yield 1 ∷ Close 1 ∷ leave 2) ∷ [])
 
 -- DEINITIALISERS: cores in which a `Drop` runs them
 
 -- deinit { print(k) }
 abbrev pub prints_k : Fun
-prints_k = fun (dying ∷ []) [] unit (unit ∷ []) (print (part 0 0) ∷ leave 1)
+prints_k = fun (inout_of dying ∷ []) [] unit (unit ∷ []) (print (part 0 0) ∷ leave 1)
 
 -- deinit { print(0) }
 abbrev pub prints_nought : Fun
-prints_nought = fun (two ∷ []) [] unit (number ∷ unit ∷ []) (int 1 0 ∷ print (of 1) ∷ Drop (of 1) ∷ leave 2)
+prints_nought = fun (inout_of two ∷ []) [] unit (number ∷ unit ∷ []) (int 1 0 ∷ print (of 1) ∷ Drop (of 1) ∷ leave 2)
 
 -- fun f() -> Int {
 --   var u = 1; var v = 2
@@ -138,11 +143,14 @@ prints_nought = fun (two ∷ []) [] unit (number ∷ unit ∷ []) (int 1 0 ∷ p
 abbrev pub past_an_end : Core
 past_an_end = dying_core (main (unit ∷ number ∷ []) (Call 1 [] [] (of 1) ∷ print (of 1) ∷ Drop (of 1) ∷ leave 0)
     ∷ fun [] [] number (numbers_for 12 (dying ∷ truth ∷ number ∷ number ∷ [])) (
-    int 0 1 ∷ int 1 2 ∷ While (stmts (Set (of 13) (pos 1) ∷ [])) 13 (stmts (Drop (of 13) ∷ bind 1 2 2 3 0 4 5 6 ++ Set (part 12 0) (pos 7) ∷ bind 2 2 7 8 1 9 10 11
+    int 0 1 ∷ int 1 2 ∷
+    While (stmts (Set (of 13) (pos 1) ∷ [])) 13 (stmts (Drop (of 13) ∷ bind 1 2 2 3 0 4 5 6 ++ Set (part 12 0) (pos 7) ∷ bind 2 2 7 8 1 9 10 11
     ++ add_to 6 14 1 ++ int 14 2 ∷ tell Eq 13 (of 6 ∷ of 14 ∷ []) ∷ Drop (of 14)
-    ∷ If 13 (stmts (Drop (of 13) ∷ compute Add 15 (of 6 ∷ of 11 ∷ []) ∷ compute Add 15 (of 15 ∷ part 12 0 ∷ []) ∷ unbind 7 8 9 10 11 ++ Drop (of 12) ∷ unbind 2 3 4 5 6
+    ∷ If 13 (stmts (Drop (of 13) ∷ compute Add 15 (of 6 ∷ of 11 ∷ []) ∷ compute Add 15 (of 15 ∷ part 12 0 ∷ []) ∷ unbind 7 8 9 10 11 ++ Drop (of 12) ∷
+    unbind 2 3 4 5 6
     ++ Drop (of 1) ∷ Drop (of 0) ∷ Leave (of 15) ∷ [])) Done ∷ Drop (of 13)
-    ∷ compute Add 11 (of 11 ∷ part 12 0 ∷ []) ∷ unbind 7 8 9 10 11 ++ Drop (of 12) ∷ unbind 2 3 4 5 6)) ∷ Drop (of 13) ∷ Drop (of 1) ∷ Drop (of 0) ∷ int 15 0 ∷ Leave (of 15) ∷ [])
+    ∷ compute Add 11 (of 11 ∷ part 12 0 ∷ []) ∷ unbind 7 8 9 10 11 ++ Drop (of 12) ∷ unbind 2 3 4 5 6)) ∷ Drop (of 13) ∷ Drop (of 1) ∷ Drop (of 0) ∷
+    int 15 0 ∷ Leave (of 15) ∷ [])
     ∷ talking ∷ prints_k ∷ prints_nought ∷ []) 3 4
 
 -- var a = [D(k: 1), D(k: 2), D(k: 3)]; a[1] = D(k: 9)
@@ -151,7 +159,8 @@ push_dying k = Set (part 2 0) (pos k) ∷ push 1 2 ∷ []
 
 abbrev pub an_old_element : Core
 an_old_element = dying_core (main (unit ∷ dyings ∷ dying ∷ number ∷ dying ∷ []) (
-    tell NewArray 1 [] ∷ push_dying 1 ++ push_dying 2 ++ push_dying 3 ++ Set (part 2 0) (pos 9) ∷ int 3 1 ∷ Lend 4 (item 1 3) true ∷ Drop (of 4) ∷ Move (of 4) (of 2) ∷ Close 4
+    tell NewArray 1 [] ∷ push_dying 1 ++ push_dying 2 ++ push_dying 3 ++ Set (part 2 0) (pos 9) ∷ int 3 1 ∷ Lend 4 (item 1 3) true ∷ Drop (of 4) ∷
+    Move (of 4) (of 2) ∷ Close 4
     ∷ Drop (of 3) ∷ Drop (of 1) ∷ leave 0) ∷ prints_k ∷ prints_nought ∷ []) 1 2
 
 -- var a = [[1], [2, 3]]: an array that is deinitialised takes a turn, and each element another
@@ -178,7 +187,8 @@ in_part = dying_core (main (unit ∷ two ∷ dying ∷ []) (
 abbrev pub a_tree : Core
 a_tree = core (main (unit ∷ tree ∷ tree ∷ tree ∷ tree ∷ number ∷ []) (
     Built NewArray (Some (part 3 0)) [] [] ∷ Built NewArray (Some (part 4 0)) [] [] ∷ Built Push None (part 4 0 ∷ of 3 ∷ []) []
-    ∷ Built NewArray (Some (part 3 0)) [] [] ∷ Built NewArray (Some (part 1 0)) [] [] ∷ Built Push None (part 1 0 ∷ of 4 ∷ []) [] ∷ Built Push None (part 1 0 ∷ of 3 ∷ []) []
+    ∷ Built NewArray (Some (part 3 0)) [] [] ∷ Built NewArray (Some (part 1 0)) [] [] ∷ Built Push None (part 1 0 ∷ of 4 ∷ []) [] ∷
+    Built Push None (part 1 0 ∷ of 3 ∷ []) []
     ∷ Copy (of 2) (of 1) ∷ tell Count 5 (part 2 0 ∷ []) ∷ print (of 5) ∷ Drop (of 5) ∷ Drop (of 2) ∷ Drop (of 1) ∷ leave 0) ∷ [])
 
 -- LOOPS, ENDS AND INPUT
@@ -186,14 +196,16 @@ a_tree = core (main (unit ∷ tree ∷ tree ∷ tree ∷ tree ∷ number ∷ [])
 -- var i = 0; while i < 10 { print(i); i += 1 }
 abbrev pub a_loop : Core
 a_loop = core (main (unit ∷ number ∷ number ∷ truth ∷ []) (
-    int 1 0 ∷ While (stmts (int 2 10 ∷ tell Lt 3 (of 1 ∷ of 2 ∷ []) ∷ Drop (of 2) ∷ [])) 3 (stmts (Drop (of 3) ∷ print (of 1) ∷ add_to 1 2 1)) ∷ Drop (of 3) ∷ Drop (of 1) ∷ leave 0) ∷ [])
+    int 1 0 ∷ While (stmts (int 2 10 ∷ tell Lt 3 (of 1 ∷ of 2 ∷ []) ∷ Drop (of 2) ∷ [])) 3 (stmts (Drop (of 3) ∷ print (of 1) ∷ add_to 1 2 1)) ∷
+    Drop (of 3) ∷ Drop (of 1) ∷ leave 0) ∷ [])
 
 -- while i < 5 { i += 1; if i == 2 { continue }; if i == 4 { break }; print(i) }
 abbrev pub leaves_a_loop : Core
 leaves_a_loop = core (main (unit ∷ number ∷ number ∷ truth ∷ []) (
     int 1 0 ∷ While (stmts (int 2 5 ∷ tell Lt 3 (of 1 ∷ of 2 ∷ []) ∷ Drop (of 2) ∷ [])) 3 (stmts (Drop (of 3) ∷ add_to 1 2 1
     ++ int 2 2 ∷ tell Eq 3 (of 1 ∷ of 2 ∷ []) ∷ Drop (of 2) ∷ If 3 (stmts (Drop (of 3) ∷ Continue ∷ [])) Done ∷ Drop (of 3)
-    ∷ int 2 4 ∷ tell Eq 3 (of 1 ∷ of 2 ∷ []) ∷ Drop (of 2) ∷ If 3 (stmts (Break ∷ [])) Done ∷ Drop (of 3) ∷ print (of 1) ∷ [])) ∷ Drop (of 3) ∷ Drop (of 1) ∷ leave 0) ∷ [])
+    ∷ int 2 4 ∷ tell Eq 3 (of 1 ∷ of 2 ∷ []) ∷ Drop (of 2) ∷ If 3 (stmts (Break ∷ [])) Done ∷ Drop (of 3) ∷ print (of 1) ∷ [])) ∷ Drop (of 3) ∷
+    Drop (of 1) ∷ leave 0) ∷ [])
 
 -- var a = [10, 20]; var i = read(); print(a.count); print(a[i])
 abbrev pub reads_an_index : Core
@@ -211,15 +223,20 @@ took n r = record r { taken = n }
 abbrev pub an_array : Core
 an_array = core (main (unit ∷ numbers ∷ number ∷ number ∷ []) (
     tell NewArray 1 [] ∷ int 2 1 ∷ push 1 2 ∷ int 2 2 ∷ push 1 2 ∷ int 2 0 ∷ int 3 1 ∷ Built Swap None (of 1 ∷ of 2 ∷ of 3 ∷ []) (0 ∷ 0 ∷ [])
-    ∷ compute Pop 2 (of 1 ∷ []) ∷ print (of 2) ∷ tell Count 2 (of 1 ∷ []) ∷ print (of 2) ∷ compute Pop 2 (of 1 ∷ []) ∷ print (of 2) ∷ compute Pop 2 (of 1 ∷ []) ∷ leave 0) ∷ [])
+    ∷ compute Pop 2 (of 1 ∷ []) ∷ print (of 2) ∷ tell Count 2 (of 1 ∷ []) ∷ print (of 2) ∷ compute Pop 2 (of 1 ∷ []) ∷ print (of 2) ∷
+    compute Pop 2 (of 1 ∷ []) ∷ Drop (of 2) ∷ Drop (of 3) ∷ Drop (of 1) ∷ leave 0) ∷ [])
 
 -- an operation on two numbers, printed
 abbrev pub operation : Operator → ℤ → ℤ → Core
-operation o a b = core (main (unit ∷ number ∷ number ∷ []) (Set (of 1) a ∷ Set (of 2) b ∷ compute o 1 (of 1 ∷ of 2 ∷ []) ∷ print (of 1) ∷ leave 0) ∷ [])
+operation o a b =
+    core (main (unit ∷ number ∷ number ∷ []) (Set (of 1) a ∷ Set (of 2) b ∷ compute o 1 (of 1 ∷ of 2 ∷ []) ∷ print (of 1) ∷ Drop (of 2) ∷ Drop (of 1) ∷
+    leave 0) ∷ [])
 
 -- precondition(1 < 1)
 abbrev pub precondition : Core
-precondition = core (main (unit ∷ number ∷ truth ∷ []) (int 1 1 ∷ tell Lt 2 (of 1 ∷ of 1 ∷ []) ∷ Built Print None (of 2 ∷ []) [] ∷ Built Check None (of 2 ∷ []) (1 ∷ []) ∷ leave 0) ∷ [])
+precondition =
+    core (main (unit ∷ number ∷ truth ∷ []) (int 1 1 ∷ tell Lt 2 (of 1 ∷ of 1 ∷ []) ∷ Built Print None (of 2 ∷ []) [] ∷
+    Built Check None (of 2 ∷ []) (1 ∷ []) ∷ Drop (of 2) ∷ Drop (of 1) ∷ leave 0) ∷ [])
 
 abbrev pub minus : ℕ → ℤ
 minus n = neg_ℤ (pos n)
@@ -229,10 +246,10 @@ abbrev pub least : ℤ
 least = negsuc 9223372036854775807
 
 abbrev pub Gives : Operator → ℤ → ℤ → ℤ → Type 0
-Gives o a b n = Shows (checked (operation o a b) 5) 10 (done (n ∷ []) 1 0)
+Gives o a b n = Shows (checked (operation o a b) 5) 14 (done (n ∷ []) 1 0)
 
 abbrev pub Traps : Operator → ℤ → ℤ → TrapKind → Type 0
-Traps o a b kind = Shows (checked (operation o a b) 5) 10 (ended (end.Trap kind trap_span) [] 1 0)
+Traps o a b kind = Shows (checked (operation o a b) 5) 14 (ended (end.Trap kind trap_span) [] 1 0)
 
 -- WHAT THEY SHOW
 
@@ -291,7 +308,14 @@ pub record Operations : Type 0 where
   pub rem_nought : Traps Rem (pos 0) (pos 0) trap.Divide
   pub div_overflow : Traps Div least (minus 1) trap.Overflow
   pub rem_overflow : Traps Rem least (minus 1) trap.Overflow
-  pub precondition : Shows (checked precondition 5) 10 (record { output = codes "false" ++ 10 ∷ []; halt = Some (Ends (end.Trap trap.Precondition trap_span)); taken = 0; turns = 1; opened = 0 })
+  pub precondition : Shows (checked precondition 5) 10 (record {
+    output = codes "false" ++ 10 ∷ [];
+    halt =
+        Some (Ends (end.Trap trap.Precondition trap_span));
+    taken = 0;
+    turns = 1;
+    opened = 0;
+  })
 
 pub record Examples : Type 0 where
   pub places : LentPlaces

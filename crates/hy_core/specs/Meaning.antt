@@ -5,7 +5,7 @@ use Rattle.hy_core.specs.Memory.{Memory, copying, lending, no_copies, no_cells}
 use Rattle.hy_core.specs.Runs.{State, steps}
 use Rattle.hy_core.specs.Calm.{StaysCalm}
 use Rattle.hy_core.specs.Control.{Control, Halt, NotSet, NotOpened, Stage, Setting}
-use Rattle.hy_core.specs.Statements.{talk, start}
+use Rattle.hy_core.specs.Statements.{interaction, start}
 
 -- What is seen of a run: its output and how it stopped, how many bytes of the input it took, the turns that it took, the
 -- places that it opened.
@@ -33,7 +33,7 @@ setting r = record { core = r.core; stage = r.stage; cut = r.cut }
 
 -- the state after k steps
 abbrev pub state : {M : Type 0} → Memory M → M → Run → (k : ℕ) → State Control M
-state memory m r k = steps memory (talk (setting r)) k (start r.core r.input r.turns) m
+state memory m r k = steps memory (interaction (setting r)) k (start r.core r.input r.turns) m
 
 -- what is seen after k steps
 abbrev pub seen : {M : Type 0} → Memory M → M → Run → (k : ℕ) → Report
@@ -62,7 +62,7 @@ LendsTo r = Means (lent r)
 
 -- The run touches nothing that overlaps what is open.
 abbrev pub TouchesCalmly : Run → Type 0
-TouchesCalmly r = (k : ℕ) → StaysCalm (talk (setting r)) k (start r.core r.input r.turns) no_copies
+TouchesCalmly r = (k : ℕ) → StaysCalm (interaction (setting r)) k (start r.core r.input r.turns) no_copies
 
 abbrev pub NeverHalts : Run → Halt → Type 0
 NeverHalts r h = (k : ℕ) → (copied r k).halt ≢ Some h
@@ -81,7 +81,7 @@ pub record IsCalmRun (r : Run) : Type 0 where
 
 -- Where the copying run is calm, the two runs are the same: step by step, and so in their meanings.
 abbrev pub CopyingAndLendingAgree : Type 0
-CopyingAndLendingAgree = (r : Run) (k : ℕ) → StaysCalm (talk (setting r)) k (start r.core r.input r.turns) no_copies → copied r k ≡ lent r k
+CopyingAndLendingAgree = (r : Run) (k : ℕ) → StaysCalm (interaction (setting r)) k (start r.core r.input r.turns) no_copies → copied r k ≡ lent r k
 
 abbrev pub MeaningsAgree : Type 0
 MeaningsAgree = (r : Run) → TouchesCalmly r → (report : Report) → (CopiesTo r report → LendsTo r report) × (LendsTo r report → CopiesTo r report)

@@ -1,5 +1,6 @@
 -- What a run asks of a memory, and the two memories: one that copies in and out, and one that lends references.
 use Rattle.std.specs.Prelude.{ℕ, Bool, cond, ◌&&◌, ◌==◌, [], ◌++◌, Option, Some, None}
+pub use Rattle.hy_core.specs.Plain.{Way, Reads, Writes}
 use Rattle.hy_core.specs.Values.{Val, Unset, Path, get, put}
 
 -- a local of an activation
@@ -25,10 +26,6 @@ whole k = record { key = k; path = [] }
 -- a place below a place
 abbrev pub below : Spot → Path → Spot
 below s p = record { key = s.key; path = s.path ++ p }
-
-pub data Way : Type 0 where
-  Reads : Way
-  Writes : Way
 
 -- What a memory M can do. `lend` makes a local stand for a place; `hand` makes one local stand for what another stands for,
 -- in the same way; `close` ends that.

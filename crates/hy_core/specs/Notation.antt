@@ -1,5 +1,5 @@
 -- How small cores are written down.
-use Rattle.std.specs.Prelude.{ℕ, zero, suc, true, false, List, [], ◌∷◌, ◌++◌, Some, None, ℤ, pos}
+use Rattle.std.specs.Prelude.{ℕ, zero, suc, false, List, [], ◌∷◌, ◌++◌, Some, None, ℤ, pos}
 use Rattle.std.specs.Fmt.{signed_decimal}
 use Rattle.hy_base.specs.declared.position.Span.{Span}
 use Rattle.hy_base.specs.declared.run.End.{End}
@@ -7,7 +7,8 @@ use Rattle.hy_base.specs.declared.run.End.TheVariants as end
 use Rattle.hy_types.specs.declared.kinds.TyId.{TyId}
 use Rattle.hy_types.specs.declared.kinds.Ty.TheVariants as ty
 use Rattle.hy_types.specs.Types.{Table}
-use Rattle.hy_core.specs.Plain.{Part, Index, Place, Operator, Push, Print, Stmts, Done, Then, Stmt, Built, Set, Fun, Core}
+use Rattle.hy_core.specs.Plain.{Part, Index, Place, Operator, Push, Print, Stmts, Done, Then, Stmt, Built, Set, Way, ByLet, ByInout, BySet, Parameter, Fun}
+use Rattle.hy_core.specs.Plain.{Core}
 use Rattle.hy_core.specs.Control.{Ends, Deinitialises, GivesUp}
 use Rattle.hy_core.specs.Meaning.{Report, Run}
 
@@ -114,11 +115,21 @@ numbers_for (suc n) ts = number ∷ numbers_for n ts
 
 -- CORES AND RUNS
 
-abbrev pub fun : (lent owned : List TyId) → (result : TyId) → (locals : List TyId) → List Stmt → Fun
-fun lent owned result locals body = record { lent = lent; owned = owned; result = result; locals = locals; ramp = false; body = stmts body }
+-- parameters that are lent, by convention
+abbrev pub let_of : TyId → Parameter
+let_of t = record { type = t; convention = ByLet }
 
-abbrev pub ramp : (lent owned : List TyId) → (result : TyId) → (locals : List TyId) → List Stmt → Fun
-ramp lent owned result locals body = record { lent = lent; owned = owned; result = result; locals = locals; ramp = true; body = stmts body }
+abbrev pub inout_of : TyId → Parameter
+inout_of t = record { type = t; convention = ByInout }
+
+abbrev pub set_of : TyId → Parameter
+set_of t = record { type = t; convention = BySet }
+
+abbrev pub fun : (lent : List Parameter) → (owned : List TyId) → (result : TyId) → (locals : List TyId) → List Stmt → Fun
+fun lent owned result locals body = record { lent = lent; owned = owned; result = result; locals = locals; yields = None; body = stmts body }
+
+abbrev pub ramp : Way → (lent : List Parameter) → (owned : List TyId) → (result : TyId) → (locals : List TyId) → List Stmt → Fun
+ramp way lent owned result locals body = record { lent = lent; owned = owned; result = result; locals = locals; yields = Some way; body = stmts body }
 
 abbrev pub main : (locals : List TyId) → List Stmt → Fun
 main locals body = fun [] [] unit locals body
@@ -134,7 +145,13 @@ core funs = record { types = types; funs = funs; spans = index_span ∷ trap_spa
 
 -- with bodies of deinitialisers: that of D by its place, and that of Two
 abbrev pub dying_core : List Fun → (dying two : ℕ) → Core
-dying_core funs d t = record { types = types; funs = funs; spans = index_span ∷ trap_span ∷ []; deinits = record { product = 0; fun = d } ∷ record { product = 2; fun = t } ∷ [] }
+dying_core funs d t = record {
+  types = types;
+  funs = funs;
+  spans = index_span ∷ trap_span ∷ [];
+  deinits =
+      record { product = 0; fun = d } ∷ record { product = 2; fun = t } ∷ [];
+}
 
 -- of a checked core, and of a core, with no input
 abbrev pub checked : Core → (turns : ℕ) → Run

@@ -1,24 +1,59 @@
 -- What the built-in operations give.
-use Rattle.std.specs.Prelude.{ℕ, zero, suc, ◌==◌, Bool, true, false, not, List, [], ◌∷◌, ◌++◌, Option, Some, None, ℤ, pos, negsuc, int_div, nat_lt, if◌then◌else◌, codes}
+use Rattle.std.specs.Prelude.{◌≡◌, Result, Ok, Err, ℕ, ◌==◌, Bool, true, false, not, List, [], ◌∷◌, ◌++◌, Option, Some, None, ℤ, pos, negsuc, neg_ℤ, nat_lt}
+use Rattle.std.specs.Prelude.{if◌then◌else◌, codes}
 use Rattle.std.specs.Fmt.{signed_decimal}
-use Rattle.hy_base.specs.Numbers.{fits}
+use Rattle.hy_base.specs.declared.numbers.IntegerType.{IntegerType}
+use Rattle.hy_base.specs.declared.numbers.IntegerType.TheVariants.{Int, Sized}
+use Rattle.hy_base.specs.declared.numbers.Operation.{Operation}
+use Rattle.hy_base.specs.Numbers.{is_in, fitting, calculated, type_number}
 use Rattle.hy_base.specs.declared.run.TrapKind.{TrapKind}
-use Rattle.hy_base.specs.declared.run.TrapKind.TheVariants as trap
 use Rattle.hy_core.specs.Values.{Val, Unset, Number, Truth, Tuple, Product, Array, Vals, No, And}
 
-pub data Result : Type 0 where
-  Gives : ℤ → Result
-  Traps : TrapKind → Result
+-- INTEGERS
 
--- a number that does not fit overflows
-abbrev pub fitting : ℤ → Result
-fitting n = if fits n then Gives n else Traps trap.Overflow
+abbrev pub same_type : IntegerType → IntegerType → Bool
+same_type t u = type_number t == type_number u
 
--- the quotient, and the remainder, of a division that truncates: that of the least number by -1 overflows in both
-abbrev pub divided : (ℤ → ℤ → ℤ) → ℤ → ℤ → Result
-divided f x (pos zero) = Traps trap.Divide
-divided f x (pos (suc n)) = Gives (f x (pos (suc n)))
-divided f x (negsuc n) = if fits (int_div x (negsuc n)) then Gives (f x (negsuc n)) else Traps trap.Overflow
+-- what is made of an integer
+abbrev pub of_integer : {A : Type 0} → (IntegerType → ℤ → Option A) → Val → Option A
+of_integer f Unset = None
+of_integer f (Number t n) = f t n
+of_integer f (Truth b) = None
+of_integer f (Tuple vs) = None
+of_integer f (Product d vs) = None
+of_integer f (Array vs) = None
+
+-- what is made of two integers of one type
+abbrev pub of_integers : {A : Type 0} → (IntegerType → ℤ → ℤ → A) → Val → Val → Option A
+of_integers f v w = of_integer (λ t m. of_integer (λ u n. if same_type t u then Some (f t m n) else None) w) v
+
+-- a result of arithmetic as a value of its type
+abbrev pub as_value : IntegerType → Result ℤ TrapKind → Result Val TrapKind
+as_value t (Ok n) = Ok (Number t n)
+as_value t (Err kind) = Err kind
+
+-- the result of an operation on two integers, in their type
+abbrev pub operated : Operation → Val → Val → Option (Result Val TrapKind)
+operated o v w = of_integers (λ t m n. as_value t (calculated t o m n)) v w
+
+-- an integer with the other sign, in its type
+abbrev pub negated : Val → Option (Result Val TrapKind)
+negated v = of_integer (λ t n. Some (as_value t (fitting t (neg_ℤ n)))) v
+
+-- an integer in another type
+abbrev pub converted : IntegerType → Val → Option (Result Val TrapKind)
+converted t v = of_integer (λ u n. Some (as_value t (fitting t n))) v
+
+-- whether two integers are in that order
+abbrev pub ordered : (ℤ → ℤ → Bool) → Val → Val → Option Bool
+ordered f v w = of_integers (λ t m n. f m n) v w
+
+-- a number of a sized type is one of the type
+abbrev pub InRange : IntegerType → ℤ → Type 0
+InRange Int n = Unit {0}
+InRange (Sized num) n = is_in (Sized num) n ≡ true
+
+-- WHAT OPERATIONS GIVE
 
 abbrev pub same_numbers : ℤ → ℤ → Bool
 same_numbers (pos m) (pos n) = m == n
@@ -30,17 +65,17 @@ abbrev pub same_flags : Bool → Bool → Bool
 same_flags true b = b
 same_flags false b = not b
 
--- whether two numbers, or two truth values, are the same
+-- whether two integers of one type, or two truth values, are the same
 abbrev pub equal : Val → Val → Option Bool
 equal Unset w = None
-equal (Number m) Unset = None
-equal (Number m) (Number n) = Some (same_numbers m n)
-equal (Number m) (Truth b) = None
-equal (Number m) (Tuple ws) = None
-equal (Number m) (Product d ws) = None
-equal (Number m) (Array ws) = None
+equal (Number t m) Unset = None
+equal (Number t m) (Number u n) = if same_type t u then Some (same_numbers m n) else None
+equal (Number t m) (Truth b) = None
+equal (Number t m) (Tuple ws) = None
+equal (Number t m) (Product d ws) = None
+equal (Number t m) (Array ws) = None
 equal (Truth a) Unset = None
-equal (Truth a) (Number n) = None
+equal (Truth a) (Number t n) = None
 equal (Truth a) (Truth b) = Some (same_flags a b)
 equal (Truth a) (Tuple ws) = None
 equal (Truth a) (Product d ws) = None
@@ -52,7 +87,7 @@ equal (Array vs) w = None
 -- the line that a number or truth value prints as
 abbrev pub line_of : Val → Option (List ℕ)
 line_of Unset = None
-line_of (Number n) = Some (signed_decimal n ++ 10 ∷ [])
+line_of (Number t n) = Some (signed_decimal n ++ 10 ∷ [])
 line_of (Truth true) = Some (codes "true" ++ 10 ∷ [])
 line_of (Truth false) = Some (codes "false" ++ 10 ∷ [])
 line_of (Tuple vs) = None

@@ -1,5 +1,6 @@
 -- A core program as plain data: a table of types, and functions as flat statements over numbered locals.
-use Rattle.std.specs.Prelude.{ℕ, ℤ, Bool, List, Option}
+use Rattle.std.specs.Prelude.{ℕ, ℤ, Bool, true, false, List, Option, Some, None, map}
+use Rattle.hy_base.specs.declared.numbers.IntegerType.{IntegerType}
 use Rattle.hy_base.specs.declared.position.Span.{Span}
 use Rattle.hy_types.specs.declared.kinds.TyId.{TyId}
 use Rattle.hy_types.specs.Types.{Table}
@@ -25,6 +26,7 @@ pub data Operator : Type 0 where
   Div : Operator
   Rem : Operator
   Neg : Operator
+  Convert : IntegerType → Operator
   Eq : Operator
   Lt : Operator
   Le : Operator
@@ -65,15 +67,45 @@ mutual
 
 -- FUNCTIONS
 
--- The locals are those that are lent, then the owned parameters, then the others. The result is the type of what a `Leave`
--- hands out, or in a ramp of what it yields.
+-- for reading, or for change
+pub data Way : Type 0 where
+  Reads : Way
+  Writes : Way
+
+-- How a place is lent to a parameter: for reading, set before and after (`ByLet`); for change, set before and after
+-- (`ByInout`); or for change, unset before and set after (`BySet`).
+pub data Convention : Type 0 where
+  ByLet : Convention
+  ByInout : Convention
+  BySet : Convention
+
+pub record Parameter : Type 0 where
+  pub type : TyId
+  pub convention : Convention
+
+-- The locals are the parameters that are lent, then the owned ones, then the others. The result is the type of what a `Leave`
+-- hands out, or in a ramp of what it yields; `yields` is the way of that.
 pub record Fun : Type 0 where
-  pub lent : List TyId
+  pub lent : List Parameter
   pub owned : List TyId
   pub result : TyId
   pub locals : List TyId
-  pub ramp : Bool
+  pub yields : Option Way
   pub body : Stmts
+
+abbrev pub types_of : List Parameter → List TyId
+types_of = map (λ a. a.type)
+
+abbrev pub lent_types : Fun → List TyId
+lent_types f = types_of f.lent
+
+abbrev pub some_way : Option Way → Bool
+some_way None = false
+some_way (Some w) = true
+
+-- the body of a subscript
+abbrev pub is_ramp : Fun → Bool
+is_ramp f = some_way f.yields
 
 -- the body of a product's deinitialiser, by its place among the functions
 pub record Deinit : Type 0 where

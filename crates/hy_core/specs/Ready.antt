@@ -1,24 +1,29 @@
 -- What a core must be for its two meanings to be equal, and what is proved of such cores.
-use Rattle.std.specs.Prelude.{◌≡◌}
+use Rattle.std.specs.Prelude.{◌≡◌, true}
 use Rattle.hy_core.specs.Plain.{Core}
-use Rattle.hy_core.specs.Control.{Stuck, GivesUp}
+use Rattle.hy_core.specs.Control.{Stuck, Stage, GivesUp}
 use Rattle.hy_core.specs.Meaning.{Report, Run, CopiesTo, LendsTo, NeverHalts, IsCalmRun}
 use Rattle.hy_core.specs.Dropped.{IsDroppedRun}
 use Rattle.hy_core.specs.Shaped.{Shaped}
-use Rattle.hy_core.specs.Told.{Told}
+use Rattle.hy_core.specs.Flow.{HasFlow}
+use Rattle.hy_core.specs.FlowOf.{has_flow}
 
 -- A checked core is ready to be lowered. That it is calm and drops all follows.
 pub record Ready (core : Core) : Type 0 where
   pub shaped : Shaped core
-  pub told : Told GivesUp core
+  pub flow : HasFlow GivesUp core
 
--- A core that is told is calm, whatever it is given. Of checked cores that is proved (`ReadyCoresAreCalm`).
-abbrev pub ToldIsCalm : Type 0
-ToldIsCalm = (r : Run) → Shaped r.core → Told r.stage r.core → IsCalmRun r
+-- What is computed is a flow.
+abbrev pub ComputedIsFlow : Type 0
+ComputedIsFlow = (stage : Stage) (core : Core) → has_flow stage core ≡ true → HasFlow stage core
 
--- A checked core that is told has given up all that is set by the end of each body.
-abbrev pub ToldIsDropped : Type 0
-ToldIsDropped = (r : Run) → r.stage ≡ GivesUp → Shaped r.core → Told r.stage r.core → IsDroppedRun r
+-- A core that has a flow is calm, whatever it is given. Of checked cores that is proved (`ReadyCoresAreCalm`).
+abbrev pub FlowIsCalm : Type 0
+FlowIsCalm = (r : Run) → Shaped r.core → HasFlow r.stage r.core → IsCalmRun r
+
+-- A checked core that has a flow has given up all that is set by the end of each body.
+abbrev pub FlowIsDropped : Type 0
+FlowIsDropped = (r : Run) → r.stage ≡ GivesUp → Shaped r.core → HasFlow r.stage r.core → IsDroppedRun r
 
 -- A core of the right shape never gets stuck.
 abbrev pub ShapedIsNeverStuck : Type 0
@@ -26,7 +31,8 @@ ShapedIsNeverStuck = (r : Run) → Shaped r.core → NeverHalts r Stuck
 
 -- The two meanings of a ready core are equal.
 abbrev pub ReadyCoresAgree : Type 0
-ReadyCoresAgree = (r : Run) → r.stage ≡ GivesUp → Ready r.core → (report : Report) → (CopiesTo r report → LendsTo r report) × (LendsTo r report → CopiesTo r report)
+ReadyCoresAgree = (r : Run) → r.stage ≡ GivesUp → Ready r.core → (report : Report) → (CopiesTo r report → LendsTo r report)
+    × (LendsTo r report → CopiesTo r report)
 
 -- Every run of a ready core is calm.
 abbrev pub ReadyCoresAreCalm : Type 0

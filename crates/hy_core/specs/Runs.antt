@@ -3,27 +3,27 @@ use Rattle.std.specs.Prelude.{ℕ, zero, suc}
 use Rattle.hy_core.specs.Values.{Val, Unset, Shape, shape}
 use Rattle.hy_core.specs.Memory.{Key, Spot, Way, Memory}
 
--- What a control does to a memory. Three stores are told apart: of what a statement gives (`Store`), of an array that is
+-- What a control does to a memory. Three stores are distinguished: of what a statement gives (`Store`), of an array that is
 -- changed where it stands (`Change`), and of what leaves a place unset (`Clear`). `Quit` does nothing: an activation that
 -- has that many lent locals is about to end.
-pub data Op : Type 0 where
-  Store : Spot → Val → Op
-  Change : Spot → Val → Op
-  Clear : Spot → Op
-  Lend : Key → Spot → Way → Op
-  Hand : (to from : Key) → Op
-  Close : Key → Op
-  Quit : (act lent : ℕ) → Op
+pub data Effect : Type 0 where
+  Store : Spot → Val → Effect
+  Change : Spot → Val → Effect
+  Clear : Spot → Effect
+  Lend : Key → Spot → Way → Effect
+  Hand : (to from : Key) → Effect
+  Close : Key → Effect
+  Quit : (act lent : ℕ) → Effect
 
--- One step of a control: it asks for values, looks at what stands somewhere, tells the memory what to do, and comes to its
+-- One step of a control: it fetches values, inspects what stands somewhere, has the memory perform effects, and comes to its
 -- next state.
-pub data Talk (C : Type 0) : Type 0 where
-  Ask : Spot → (Val → Talk C) → Talk C
-  Look : Spot → (Shape → Talk C) → Talk C
-  Tell : Op → Talk C → Talk C
-  Next : C → Talk C
+pub data Interaction (C : Type 0) : Type 0 where
+  Fetch : Spot → (Val → Interaction C) → Interaction C
+  Inspect : Spot → (Shape → Interaction C) → Interaction C
+  Perform : Effect → Interaction C → Interaction C
+  Return : C → Interaction C
 
-abbrev pub apply : {M : Type 0} → Memory M → Op → M → M
+abbrev pub apply : {M : Type 0} → Memory M → Effect → M → M
 apply r (Store s v) m = r.store m s v
 apply r (Change s v) m = r.store m s v
 apply r (Clear s) m = r.store m s Unset
@@ -37,13 +37,13 @@ pub record State (C M : Type 0) : Type 0 where
   pub control : C
   pub memory : M
 
-abbrev pub interpret : {C M : Type 0} → Memory M → Talk C → M → State C M
-interpret r (Ask s go) m = interpret r (go (r.read m s)) m
-interpret r (Look s go) m = interpret r (go (shape (r.read m s))) m
-interpret r (Tell op t) m = interpret r t (apply r op m)
-interpret r (Next c) m = record { control = c; memory = m }
+abbrev pub interpret : {C M : Type 0} → Memory M → Interaction C → M → State C M
+interpret r (Fetch s go) m = interpret r (go (r.read m s)) m
+interpret r (Inspect s go) m = interpret r (go (shape (r.read m s))) m
+interpret r (Perform op t) m = interpret r t (apply r op m)
+interpret r (Return c) m = record { control = c; memory = m }
 
 -- the state after n steps
-abbrev pub steps : {C M : Type 0} → Memory M → (C → Talk C) → ℕ → C → M → State C M
-steps r talk zero c m = record { control = c; memory = m }
-steps r talk (suc n) c m = let s = interpret r (talk c) m in steps r talk n s.control s.memory
+abbrev pub steps : {C M : Type 0} → Memory M → (C → Interaction C) → ℕ → C → M → State C M
+steps r interaction zero c m = record { control = c; memory = m }
+steps r interaction (suc n) c m = let s = interpret r (interaction c) m in steps r interaction n s.control s.memory

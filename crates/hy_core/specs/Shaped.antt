@@ -1,9 +1,13 @@
 -- The shape of a core: what its statements name is there and has the type that they want, and each path through a body ends.
 use Rattle.std.specs.Prelude.{◌≡◌, ◌⊎◌, ◌≤◌, ◌<◌, ℕ, Bool, true, false, List, [], ◌∷◌, ◌++◌, length, Option, Some, None, slice_get, ℤ, pos}
-use Rattle.hy_base.specs.Numbers.{fits}
+use Rattle.hy_base.specs.declared.numbers.IntegerType.{IntegerType}
+use Rattle.hy_base.specs.declared.numbers.IntegerType.TheVariants.{Int}
+use Rattle.hy_base.specs.Numbers.{is_in, is_signed}
 use Rattle.hy_types.specs.declared.kinds.TyId.{TyId}
 use Rattle.hy_types.specs.Words.{HasWords}
-use Rattle.hy_core.specs.Plain.{Step, Part, Index, Place, Operator, Add, Sub, Mul, Div, Rem, Neg, Eq, Lt, Le, Not, NewArray, Push, Pop, Swap, Count, FreeArray, Print, Read, Check, Stmts, Done, Then, Stmt, Built, Set, Lend, Close, Move, Copy, Drop, Call, Project, Slide, Yield, If, While, Break, Continue, Leave, Fun, Deinit, Core}
+use Rattle.hy_core.specs.Plain.{Step, Part, Index, Place, Operator, Add, Sub, Mul, Div, Rem, Neg, Convert, Eq, Lt, Le, Not, NewArray, Push, Pop, Swap}
+use Rattle.hy_core.specs.Plain.{Count, FreeArray, Print, Read, Check, Stmts, Done, Then, Stmt, Built, Set, Lend, Close, Move, Copy, Drop, Call, Project}
+use Rattle.hy_core.specs.Plain.{Slide, Yield, If, While, Break, Continue, Leave, ByInout, Fun, lent_types, is_ramp, Deinit, Core}
 use Rattle.hy_core.specs.Control.{Form, Numbers, Flags, Tuples, Products, Arrays, Unknown, form, local_type}
 use Rattle.hy_core.specs.Typing.{Among, all, Distinct, place_type, IsSmall}
 
@@ -11,7 +15,7 @@ use Rattle.hy_core.specs.Typing.{Among, all, Distinct, place_type, IsSmall}
 
 -- `GoesAll ramp ss y next breaks again`: on each path through these statements, where `y` says whether the `Yield` has come,
 -- it comes nowhere but in a ramp and only once, a `Leave` stands only where all is done, and what follows is as the three
--- say: behind the statements, behind the innermost loop, and at its next pass. Nothing follows a `Leave`. Conditions are
+-- say: after the statements, after the innermost loop, and at its next pass. Nothing follows a `Leave`. Conditions are
 -- ignored.
 abbrev mutual
   pub GoesAll : (ramp : Bool) → Stmts → (y : Bool) → (next breaks again : Bool → Type 0) → Type 0
@@ -96,10 +100,10 @@ module _ (core : Core) (f : Fun) where
   abbrev pub IsSpan : ℕ → Type 0
   IsSpan s = s < length core.spans
 
-  -- The local of an index is a number of the body's own, and no `Lend` or `Project` fills it.
+  -- The local of an index is an `Int` of the body's own, and no `Lend` or `Project` fills it.
   abbrev pub IsStep : Step → Type 0
   IsStep (Part i) = Unit {0}
-  IsStep (Index l s) = HasForm l Numbers × (length f.lent ≤ l) × (Among l (filled_by f.body) → ⊥) × IsSpan s
+  IsStep (Index l s) = HasForm l (Numbers Int) × (length (lent_types f) ≤ l) × (Among l (filled_by f.body) → ⊥) × IsSpan s
 
   -- the place is there, and has that type
   abbrev pub IsOf : TyId → Place → Type 0
@@ -144,16 +148,18 @@ module _ (core : Core) (f : Fun) where
   Three [] P = ⊥
   Three (x ∷ xs) P = Two xs (P x)
 
-  -- from two numbers, with one span or none, to that form
+  -- from two integers of one type, with one span or none, to that type or a truth value
   abbrev pub Arithmetic : Option Place → List Place → List ℕ → Type 0
-  Arithmetic to from spans = Stores to (IsOfForm Numbers) × Two from (λ a b. IsOfForm Numbers a × IsOfForm Numbers b) × One spans IsSpan
+  Arithmetic to from spans =
+      (t : IntegerType) × Stores to (IsOfForm (Numbers t)) × Two from (λ a b. IsOfForm (Numbers t) a × IsOfForm (Numbers t) b) × One spans IsSpan
 
   abbrev pub Compares : Option Place → List Place → List ℕ → Type 0
-  Compares to from spans = Stores to (IsOfForm Flags) × Two from (λ a b. IsOfForm Numbers a × IsOfForm Numbers b) × (spans ≡ [])
+  Compares to from spans =
+      Stores to (IsOfForm Flags) × Two from (λ a b. (t : IntegerType) × IsOfForm (Numbers t) a × IsOfForm (Numbers t) b) × (spans ≡ [])
 
-  -- a number or a truth value
+  -- an integer or a truth value
   abbrev pub IsPlain : Form → Type 0
-  IsPlain x = (x ≡ Numbers) ⊎ (x ≡ Flags)
+  IsPlain x = ((t : IntegerType) × (x ≡ Numbers t)) ⊎ (x ≡ Flags)
 
   abbrev pub IsBuilt : Operator → Option Place → List Place → List ℕ → Type 0
   IsBuilt Add to from spans = Arithmetic to from spans
@@ -161,7 +167,9 @@ module _ (core : Core) (f : Fun) where
   IsBuilt Mul to from spans = Arithmetic to from spans
   IsBuilt Div to from spans = Arithmetic to from spans
   IsBuilt Rem to from spans = Arithmetic to from spans
-  IsBuilt Neg to from spans = Stores to (IsOfForm Numbers) × One from (IsOfForm Numbers) × One spans IsSpan
+  IsBuilt Neg to from spans =
+      (t : IntegerType) × (is_signed t ≡ true) × Stores to (IsOfForm (Numbers t)) × One from (IsOfForm (Numbers t)) × One spans IsSpan
+  IsBuilt (Convert t) to from spans = Stores to (IsOfForm (Numbers t)) × One from (λ a. (u : IntegerType) × IsOfForm (Numbers u) a) × One spans IsSpan
   IsBuilt Eq to from spans = Stores to (IsOfForm Flags) × Two from (λ a b. (x : Form) × IsPlain x × IsOfForm x a × IsOfForm x b) × (spans ≡ [])
   IsBuilt Lt to from spans = Compares to from spans
   IsBuilt Le to from spans = Compares to from spans
@@ -170,17 +178,17 @@ module _ (core : Core) (f : Fun) where
   IsBuilt Push to from spans = StoresNothing to × Two from (λ array a. (t : TyId) × IsOfForm (Arrays t) array × IsOf t a) × (spans ≡ [])
   IsBuilt Pop to from spans = One from (λ array. (t : TyId) × IsOfForm (Arrays t) array × Stores to (IsOf t)) × One spans IsSpan
   IsBuilt Swap to from spans =
-      StoresNothing to × Three from (λ array a b. (t : TyId) × IsOfForm (Arrays t) array × IsOfForm Numbers a × IsOfForm Numbers b)
+      StoresNothing to × Three from (λ array a b. (t : TyId) × IsOfForm (Arrays t) array × IsOfForm (Numbers Int) a × IsOfForm (Numbers Int) b)
       × Two spans (λ s t. IsSpan s × IsSpan t)
-  IsBuilt Count to from spans = Stores to (IsOfForm Numbers) × One from (λ array. (t : TyId) × IsOfForm (Arrays t) array) × (spans ≡ [])
+  IsBuilt Count to from spans = Stores to (IsOfForm (Numbers Int)) × One from (λ array. (t : TyId) × IsOfForm (Arrays t) array) × (spans ≡ [])
   IsBuilt FreeArray to from spans = StoresNothing to × One from (λ array. (t : TyId) × IsOfForm (Arrays t) array) × (spans ≡ [])
   IsBuilt Print to from spans = StoresNothing to × One from (λ a. (x : Form) × IsPlain x × IsOfForm x a) × (spans ≡ [])
-  IsBuilt Read to from spans = Stores to (IsOfForm Numbers) × (from ≡ []) × One spans IsSpan
+  IsBuilt Read to from spans = Stores to (IsOfForm (Numbers Int)) × (from ≡ []) × One spans IsSpan
   IsBuilt Check to from spans = StoresNothing to × One from (IsOfForm Flags) × One spans IsSpan
 
-  -- a number of 64 bits; 1 or 0 for a truth value; 0 for the empty tuple, or a product without fields
+  -- an integer of the type; 1 or 0 for a truth value; 0 for the empty tuple, or a product without fields
   abbrev pub IsConstant : Form → ℤ → Type 0
-  IsConstant Numbers n = fits n ≡ true
+  IsConstant (Numbers t) n = is_in t n ≡ true
   IsConstant Flags n = (n ≡ pos 0) ⊎ (n ≡ pos 1)
   IsConstant (Tuples parts) n = (parts ≡ []) × (n ≡ pos 0)
   IsConstant (Products d parts) n = (parts ≡ []) × (n ≡ pos 0)
@@ -190,8 +198,8 @@ module _ (core : Core) (f : Fun) where
   -- a function that is a ramp or is none takes these, and gives this
   abbrev pub Takes : (ramp : Bool) → ℕ → List ℕ → List Place → (TyId → Type 0) → Type 0
   Takes ramp n lent owned Gives =
-      (k : Fun) × (slice_get core.funs n ≡ Some k) × (k.ramp ≡ ramp) × LocalsAre k.lent lent × AreOf k.owned owned × Gives k.result
-      × all (λ l. length f.lent ≤ l) lent × Distinct lent
+      (k : Fun) × (slice_get core.funs n ≡ Some k) × (is_ramp k ≡ ramp) × LocalsAre (lent_types k) lent × AreOf k.owned owned × Gives k.result
+      × all (λ l. length (lent_types f) ≤ l) lent × Distinct lent
 
   -- what a `Leave` hands out: the result, and in a ramp nothing
   abbrev pub Leaves : (ramp : Bool) → TyId → Type 0
@@ -219,32 +227,33 @@ module _ (core : Core) (f : Fun) where
     IsShaped (While head on body) = ShapedAll head × HasForm on Flags × ShapedAll body
     IsShaped Break = Unit {0}
     IsShaped Continue = Unit {0}
-    IsShaped (Leave from) = (t : TyId) × IsOf t from × Leaves f.ramp t
+    IsShaped (Leave from) = (t : TyId) × IsOf t from × Leaves (is_ramp f) t
 
--- Each path through the body ends in a `Leave`, with one `Yield` before it in a ramp and none in any other body. Two lists of
--- locals that are handed over and share a local are equal.
+-- Each path through the body ends in a `Leave`, with one `Yield` before it in a ramp and none in any other body. One statement
+-- at most fills a local by a `Lend` or `Project`. Two lists of locals that are handed over and share a local are equal.
 pub record IsShapedFun (core : Core) (f : Fun) : Type 0 where
-  pub small : all (IsSmall core.types) (f.lent ++ (f.owned ++ (f.locals ++ f.result ∷ [])))
+  pub small : all (IsSmall core.types) (lent_types f ++ (f.owned ++ (f.locals ++ f.result ∷ [])))
   pub body : ShapedAll core f f.body
-  pub paths : GoesAll f.ramp f.body false (λ y. ⊥) (λ y. ⊥) (λ y. ⊥)
+  pub paths : GoesAll (is_ramp f) f.body false (λ y. ⊥) (λ y. ⊥) (λ y. ⊥)
+  pub filled : Distinct (filled_by f.body)
   pub handed : (l : ℕ) (a b : List ℕ) → Among a (handed_by f.body) → Among b (handed_by f.body) → Among l a → Among l b → a ≡ b
 
 -- the function takes and gives nothing, and is no ramp
 pub record IsMain (core : Core) (f : Fun) : Type 0 where
-  pub ramp : f.ramp ≡ false
+  pub ramp : is_ramp f ≡ false
   pub lent : f.lent ≡ []
   pub owned : f.owned ≡ []
   pub result : HasWords core.types f.result 0
 
--- the function is lent its product alone, gives nothing, and is no ramp
+-- the function is lent its product alone, for change and set, gives nothing, and is no ramp
 pub record IsDeinit (core : Core) (d : Deinit) : Type 0 where
   pub fun : Fun
   pub there : slice_get core.funs d.fun ≡ Some fun
-  pub ramp : fun.ramp ≡ false
+  pub ramp : is_ramp fun ≡ false
   pub type : TyId
   pub parts : List TyId
   pub product : form core.types type ≡ Products d.product parts
-  pub lent : fun.lent ≡ type ∷ []
+  pub lent : fun.lent ≡ record { type = type; convention = ByInout } ∷ []
   pub owned : fun.owned ≡ []
   pub result : HasWords core.types fun.result 0
 

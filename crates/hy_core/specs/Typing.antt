@@ -4,8 +4,8 @@ use Rattle.hy_types.specs.declared.kinds.TyId.{TyId}
 use Rattle.hy_types.specs.Types.{Table}
 use Rattle.hy_types.specs.Words.{HasWords}
 use Rattle.hy_core.specs.Plain.{Step, Part, Index, Place, Fun}
-use Rattle.hy_core.specs.Values.{Path}
-use Rattle.hy_core.specs.Control.{Arrays, form, parts_of, part_type, element_type, local_type}
+use Rattle.hy_core.specs.Values.{Selector, PartAt, ElementAt, Path}
+use Rattle.hy_core.specs.Control.{Form, Arrays, form, parts_of, part_type, element_type, local_type}
 
 -- one of a list
 abbrev pub Among : {A : Type 0} → A → List A → Type 0
@@ -31,11 +31,16 @@ steps_type types (Some t) (Index l s ∷ steps) = steps_type types (element_type
 abbrev pub place_type : Table → Fun → Place → Option TyId
 place_type types f p = steps_type types (local_type f p.local) p.steps
 
--- the type of the part at a path of part numbers
+-- the type of a part; an element is no part
+abbrev pub selected_type : Form → Selector → Option TyId
+selected_type f (PartAt i) = part_type f i
+selected_type f (ElementAt i) = None
+
+-- the type of the part at a path that enters no array
 abbrev pub type_at : Table → Option TyId → Path → Option TyId
 type_at types None q = None
 type_at types (Some t) [] = Some t
-type_at types (Some t) (i ∷ q) = type_at types (part_type (form types t) i) q
+type_at types (Some t) (s ∷ q) = type_at types (selected_type (form types t) s) q
 
 -- At that path stands a part of the type that has no parts of its own.
 abbrev pub IsLeaf : Table → TyId → Path → Type 0
@@ -57,7 +62,7 @@ IsSmall types t = (n : ℕ) (u : TyId) → IsIn types n u t → (words : ℕ) ×
 -- the steps before the first index
 abbrev pub still : List Step → Path
 still [] = []
-still (Part i ∷ steps) = i ∷ still steps
+still (Part i ∷ steps) = PartAt i ∷ still steps
 still (Index l s ∷ steps) = []
 
 -- the type of what stands before the first index: the array, or the place itself

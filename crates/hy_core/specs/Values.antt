@@ -1,11 +1,12 @@
 -- Values as trees of parts, and the parts of a value by path.
-use Rattle.std.specs.Prelude.{◌≡◌, ◌≢◌, ◌⊎◌, ℕ, zero, suc, ◌<◌, ℤ, Bool, true, false, ◌&&◌, ◌||◌, List, [], ◌∷◌}
+use Rattle.std.specs.Prelude.{◌≡◌, ◌≢◌, ◌⊎◌, ℕ, zero, suc, ◌<◌, ◌==◌, ℤ, Bool, true, false, ◌&&◌, ◌||◌, List, [], ◌∷◌}
+use Rattle.hy_base.specs.declared.numbers.IntegerType.{IntegerType}
 
 mutual
-  -- a product has its declaration
+  -- a number has its integer type, and a product its declaration
   pub data Val : Type 0 where
     Unset : Val
-    Number : ℤ → Val
+    Number : IntegerType → ℤ → Val
     Truth : Bool → Val
     Tuple : Vals → Val
     Product : (declaration : ℕ) → Vals → Val
@@ -15,9 +16,20 @@ mutual
     No : Vals
     And : Val → Vals → Vals
 
--- the numbers of the parts and elements to enter
+-- one step into a value: to a part of a product or tuple, or to an element of an array, by its number
+pub data Selector : Type 0 where
+  PartAt : ℕ → Selector
+  ElementAt : ℕ → Selector
+
+abbrev pub selector_eq : Selector → Selector → Bool
+selector_eq (PartAt i) (PartAt j) = i == j
+selector_eq (PartAt i) (ElementAt j) = false
+selector_eq (ElementAt i) (PartAt j) = false
+selector_eq (ElementAt i) (ElementAt j) = i == j
+
+-- the parts and elements to enter, one after another
 abbrev pub Path : Type 0
-Path = List ℕ
+Path = List Selector
 
 abbrev pub many : Vals → ℕ
 many No = zero
@@ -33,38 +45,55 @@ with_nth k w No = No
 with_nth zero w (And v vs) = And w vs
 with_nth (suc k) w (And v vs) = And v (with_nth k w vs)
 
-abbrev pub part : ℕ → Val → Val
-part k Unset = Unset
-part k (Number n) = Unset
-part k (Truth b) = Unset
-part k (Tuple vs) = nth k vs
-part k (Product d vs) = nth k vs
-part k (Array vs) = nth k vs
+-- the part or element of a value, or `Unset` where it has none
+abbrev pub part : Selector → Val → Val
+part s Unset = Unset
+part s (Number t n) = Unset
+part s (Truth b) = Unset
+part (PartAt k) (Tuple vs) = nth k vs
+part (ElementAt k) (Tuple vs) = Unset
+part (PartAt k) (Product d vs) = nth k vs
+part (ElementAt k) (Product d vs) = Unset
+part (PartAt k) (Array vs) = Unset
+part (ElementAt k) (Array vs) = nth k vs
 
--- the value with another part, where it has that part
-abbrev pub with_part : ℕ → Val → Val → Val
-with_part k w Unset = Unset
-with_part k w (Number n) = Number n
-with_part k w (Truth b) = Truth b
-with_part k w (Tuple vs) = Tuple (with_nth k w vs)
-with_part k w (Product d vs) = Product d (with_nth k w vs)
-with_part k w (Array vs) = Array (with_nth k w vs)
+-- the value with another part or element, where it has that
+abbrev pub with_part : Selector → Val → Val → Val
+with_part s w Unset = Unset
+with_part s w (Number t n) = Number t n
+with_part s w (Truth b) = Truth b
+with_part (PartAt k) w (Tuple vs) = Tuple (with_nth k w vs)
+with_part (ElementAt k) w (Tuple vs) = Tuple vs
+with_part (PartAt k) w (Product d vs) = Product d (with_nth k w vs)
+with_part (ElementAt k) w (Product d vs) = Product d vs
+with_part (PartAt k) w (Array vs) = Array vs
+with_part (ElementAt k) w (Array vs) = Array (with_nth k w vs)
 
 -- the value at a path
 abbrev pub get : Path → Val → Val
 get [] v = v
-get (k ∷ p) v = get p (part k v)
+get (s ∷ p) v = get p (part s v)
 
 -- the value with another one at the path
 abbrev pub put : Path → Val → Val → Val
 put [] w v = w
-put (k ∷ p) w v = with_part k (put p w (part k v)) v
+put (s ∷ p) w v = with_part s (put p w (part s v)) v
 
--- neither path begins the other
+-- The places at the paths never overlap: the paths part at two parts of one value. A place and one inside it overlap, and so do
+-- all elements of one array.
 abbrev pub Apart : Path → Path → Type 0
 Apart [] q = ⊥
 Apart (s ∷ p) [] = ⊥
-Apart (s ∷ p) (t ∷ q) = (s ≢ t) ⊎ Apart p q
+Apart (PartAt i ∷ p) (PartAt j ∷ q) = (i ≢ j) ⊎ Apart p q
+Apart (PartAt i ∷ p) (ElementAt j ∷ q) = ⊥
+Apart (ElementAt i ∷ p) (PartAt j ∷ q) = ⊥
+Apart (ElementAt i ∷ p) (ElementAt j ∷ q) = ⊥
+
+-- Neither path begins the other. What is at the one is no part of what is at the other.
+abbrev pub Diverge : Path → Path → Type 0
+Diverge [] q = ⊥
+Diverge (s ∷ p) [] = ⊥
+Diverge (s ∷ p) (t ∷ q) = (s ≢ t) ⊎ Diverge p q
 
 -- the path q goes through the end of h
 abbrev pub Within : Path → Path → Type 0
@@ -75,7 +104,7 @@ Within (s ∷ h) (t ∷ q) = (s ≡ t) × Within h q
 -- what stands at the top of a value
 pub data Shape : Type 0 where
   Nothing : Shape
-  Scalar : ℤ → Shape
+  Scalar : IntegerType → ℤ → Shape
   Flag : Bool → Shape
   Parts : ℕ → Shape
   Fields : (declaration count : ℕ) → Shape
@@ -83,30 +112,33 @@ pub data Shape : Type 0 where
 
 abbrev pub shape : Val → Shape
 shape Unset = Nothing
-shape (Number n) = Scalar n
+shape (Number t n) = Scalar t n
 shape (Truth b) = Flag b
 shape (Tuple vs) = Parts (many vs)
 shape (Product d vs) = Fields d (many vs)
 shape (Array vs) = Elements (many vs)
 
-abbrev pub Has : ℕ → Shape → Type 0
-Has k Nothing = ⊥
-Has k (Scalar n) = ⊥
-Has k (Flag b) = ⊥
-Has k (Parts n) = k < n
-Has k (Fields d n) = k < n
-Has k (Elements n) = k < n
+abbrev pub Has : Selector → Shape → Type 0
+Has s Nothing = ⊥
+Has s (Scalar t n) = ⊥
+Has s (Flag b) = ⊥
+Has (PartAt k) (Parts n) = k < n
+Has (ElementAt k) (Parts n) = ⊥
+Has (PartAt k) (Fields d n) = k < n
+Has (ElementAt k) (Fields d n) = ⊥
+Has (PartAt k) (Elements n) = ⊥
+Has (ElementAt k) (Elements n) = k < n
 
--- each step of the path enters a part that the value has
+-- each step of the path enters a part or element that the value has
 abbrev pub IsThere : Path → Val → Type 0
 IsThere [] v = Unit {0}
-IsThere (k ∷ p) v = Has k (shape v) × IsThere p (part k v)
+IsThere (s ∷ p) v = Has s (shape v) × IsThere p (part s v)
 
 -- no part at any depth is unset
 abbrev mutual
   pub is_whole : Val → Bool
   is_whole Unset = false
-  is_whole (Number n) = true
+  is_whole (Number t n) = true
   is_whole (Truth b) = true
   is_whole (Tuple vs) = all_whole vs
   is_whole (Product d vs) = all_whole vs
@@ -120,7 +152,7 @@ abbrev mutual
 abbrev mutual
   pub is_blank : Val → Bool
   is_blank Unset = true
-  is_blank (Number n) = false
+  is_blank (Number t n) = false
   is_blank (Truth b) = false
   is_blank (Tuple vs) = some_blank vs
   is_blank (Product d vs) = some_blank vs
@@ -138,7 +170,7 @@ abbrev mutual
 abbrev mutual
   pub holds_array : Val → Bool
   holds_array Unset = false
-  holds_array (Number n) = false
+  holds_array (Number t n) = false
   holds_array (Truth b) = false
   holds_array (Tuple vs) = any_array vs
   holds_array (Product d vs) = any_array vs

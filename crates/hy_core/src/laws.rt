@@ -2,6 +2,7 @@
 
 ghost use Rattle.hy_core.specs.Differences.{Differences};
 ghost use Rattle.hy_core.specs.Examples.{Examples, trap_in_slide};
+ghost use Rattle.hy_core.specs.Flowing.{CalmFlow, WildFlow, FlawedFlow, MendedFlow};
 ghost use Rattle.hy_core.specs.Meaning.{CopyingAndLendingAgree, EveryRunEnds, MeaningsAgree, OneMeaning};
 ghost use Rattle.hy_core.specs.Ready.{Ready};
 
@@ -34,4 +35,13 @@ pub fn examples()
 /// Cores are ready at all: one with a subscript that yields what it is lent, whose slide traps.
 pub fn a_core_is_ready()
     ensures { Ready trap_in_slide }
+{}
+
+/// The small cores that are calm have a flow, which is computed, and those that are not calm have none. Nor has a core that
+/// breaks one rule of flows; and one that is mended has.
+pub fn flow_examples()
+    ensures calm { CalmFlow }
+    ensures wild { WildFlow }
+    ensures flawed { FlawedFlow }
+    ensures mended { MendedFlow }
 {}

@@ -2,23 +2,21 @@
 //! `docs/CORE.md` tells both in words.
 #![tactic(auto)]
 
+mod integers;
 mod laws;
-mod log;
-mod memory;
-mod operators;
 mod program;
-mod told;
-mod value;
+mod ready;
 
+pub use integers::{integer_examples, integers_stay_in_range};
 pub use laws::{
-    a_core_is_ready, copying_and_lending_agree, every_run_ends, examples, meanings_agree,
-    one_meaning,
+    a_core_is_ready, copying_and_lending_agree, every_run_ends, examples, flow_examples,
+    meanings_agree, one_meaning,
 };
-pub use log::{Key, Spot};
-pub use memory::{Cells, Copies};
-pub use operators::{Given, difference, negative, place_of, product, quotient, remainder, sum};
-pub use program::{Checked, Core, CoreFun, CoreOp, CorePlace, CoreStep, CoreStmt};
-pub use told::{
-    ready_cores_agree, ready_cores_are_calm, shaped_is_never_stuck, told_cores_drop_all,
+pub use program::{
+    Checked, Core, CoreConvention, CoreFun, CoreOp, CoreParameter, CorePlace, CoreStep, CoreStmt,
+    CoreWay,
 };
-pub use value::{Value, copy, is_whole};
+pub use ready::{
+    computed_flow_is_flow, ready_cores_agree, ready_cores_are_calm, ready_cores_drop_all,
+    ready_states, shaped_is_never_stuck,
+};

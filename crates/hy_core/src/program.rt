@@ -1,5 +1,5 @@
 //! Core programs: flat statements over numbered locals. `docs/CORE.md` says what each statement does.
-use hy_base::Span;
+use hy_base::{IntegerType, Span};
 use hy_types::{TyId, TyList, TyTable};
 use indexmap::IndexMap;
 use sqlite_items::Items;
@@ -26,17 +26,45 @@ pub struct Checked {
 /// its owned parameters, then `locals`.
 #[derive(Drop)]
 pub struct CoreFun {
-    /// The types of the parameters that stand for a place of the caller.
-    pub lent: TyList,
+    /// The parameters that stand for a place of the caller.
+    pub lent: Items<CoreParameter>,
     /// The types of the parameters that are moved in.
     pub owned: TyList,
     /// The type of what a `Leave` hands out, or in a ramp of what it yields.
     pub result: TyId,
     /// The types of the other locals.
     pub locals: TyList,
-    /// Whether it is the body of a subscript: it yields once, and is resumed by a `Slide`.
-    pub ramp: bool,
+    /// Of the body of a subscript, which yields once and is resumed by a `Slide`, the way of what it yields. What is yielded is
+    /// set, both when it is handed out and when it comes back. Of any other function, none.
+    pub yields: Option<CoreWay>,
     pub body: Items<CoreStmt>,
+}
+
+/// The way in which a place is opened.
+#[derive(Clone, Copy, Debug, PartialEq, Eq)]
+pub enum CoreWay {
+    /// For reading.
+    Read,
+    /// For change.
+    Write,
+}
+
+/// How a place is lent to a parameter: in which way, and what is set in it when the body begins and when it ends.
+#[derive(Clone, Copy, Debug, PartialEq, Eq)]
+pub enum CoreConvention {
+    /// For reading; set before and after.
+    Let,
+    /// For change; set before and after.
+    Inout,
+    /// For change; unset before, and set after.
+    Set,
+}
+
+/// A parameter that is lent.
+#[derive(Clone, Copy, Debug, PartialEq, Eq)]
+pub struct CoreParameter {
+    pub ty: TyId,
+    pub convention: CoreConvention,
 }
 
 /// A place: a local, and the way from it into its value.
@@ -64,6 +92,8 @@ pub enum CoreOp {
     Div,
     Rem,
     Neg,
+    /// Gives an integer of any type as one of this type.
+    Convert(IntegerType),
     Eq,
     Lt,
     Le,
@@ -134,7 +164,7 @@ pub enum CoreStmt {
         owned: Items<CorePlace>,
         to: u32,
     },
-    /// Runs what stands behind the `Yield` that the local came from.
+    /// Runs what follows the `Yield` that the local came from.
     Slide {
         of: u32,
     },

@@ -9,14 +9,15 @@ use Rattle.hy_tree.specs.Tree as T
 use Rattle.hy_tree.specs.Tree.{Program}
 use Rattle.hy_meaning.specs.Forms.{first_of, links_of, printed, main_of}
 use Rattle.hy_front.specs.Phases.{IsTree, Breaks}
-use Rattle.hy_meaning.specs.Meaning.{Value, Env, State, Outcome, Gives, Stops, Flow, Next, Over, fits, checked, operand_value, add_all, eval, print_value, exec, block, then_do, and_then, turn, start, reported, mean}
-use Rattle.hy_driver.specs.declared.due.Report.{Report}
+use Rattle.hy_meaning.specs.Meaning.{Value, Env, State, Outcome, Gives, Stops, Flow, Next, Over, fits, checked, operand_value, add_all, eval}
+use Rattle.hy_meaning.specs.Meaning.{print_value, exec, block, then_do, and_then, turn, start, reported, mean}
+use Rattle.hy_driver.specs.declared.reply.Report.{Report}
 use Rattle.hy_driver.specs.Call.{Call, Filed, Streams, Messages, call_of, IsSource, IsInput, IsQuiet}
 use Rattle.hy_driver.specs.Course as w
-use Rattle.hy_driver.specs.Course.{Answer, Executes, Follows, Goes}
-use Rattle.hy_driver.specs.Due.{Says, IsSaid}
+use Rattle.hy_driver.specs.Course.{Answer, RunMayAnswer, SourceMayAnswer, CallMayAnswer}
+use Rattle.hy_driver.specs.Reply.{IsReported, IsWritten}
 use Rattle.hy_driver.specs.Headline.{turns, status_of, Means, IsTrap, RefusesTheFirst, RunsAsItMeans, Answers0, Answers1, Answers3, Answers4}
-use Rattle.hy_driver.proofs.Clauses.{said, From, failed, wanting, went, from_source}
+use Rattle.hy_driver.proofs.Clauses.{written_if_no_fault, SourceCourse, failed, no_memory, went_on, from_source}
 
 -- THE MEANING NEVER ASKS FOR MORE INPUT, since no form that is built reads
 
@@ -38,7 +39,8 @@ sum_goes_on (T.ThenLink operator token operand at links) n env s =
 value_goes_on : (value : T.Expr) (env : Env) (s : State) → GoesOn (eval value env s)
 value_goes_on value env s = sum_goes_on (links_of value) (operand_value env (first_of value)) env s
 
-then_goes_past : (o : Outcome) (f : Value → Env → State → Flow) → GoesOn o → ((v : Value) (env : Env) (s : State) → GoesPast (f v env s)) → GoesPast (then_do o f)
+then_goes_past : (o : Outcome) (f : Value → Env → State → Flow) → GoesOn o → ((v : Value) (env : Env) (s : State) → GoesPast (f v env s))
+    → GoesPast (then_do o f)
 then_goes_past (Gives v env s) f on past = past v env s
 then_goes_past (Stops e s) f on past = on
 
@@ -69,7 +71,9 @@ turn_past zero s go past = λ e. cc
 turn_past (suc n) s go past = past _
 
 never_asks : (tree : Program) (input : List ℕ) (cut : Bool) (n : ℕ) → (mean tree input cut n).end ≡ end.Asks → ⊥
-never_asks tree input cut n = reported_past input n (turn n (start input n) (block (main_of tree.decls) [])) (turn_past n (start input n) (block (main_of tree.decls) []) (block_goes_past (main_of tree.decls) []))
+never_asks tree input cut n =
+    reported_past input n (turn n (start input n) (block (main_of tree.decls) []))
+    (turn_past n (start input n) (block (main_of tree.decls) []) (block_goes_past (main_of tree.decls) []))
 
 -- STATUSES
 
@@ -102,64 +106,83 @@ spent_4 (end.Trap kind span) asks h = absurd (omega arith)
 spent_4 end.Spent asks h = refl
 spent_4 end.Asks asks h = absurd (asks refl)
 
-module _ (words : List (List ℕ)) (may_fail : List ℕ → Type 0) (files_before files_after : Filed) (before after : Streams) (err_before err_after : Messages) (report : Report) where
+module _ (words : List (List ℕ)) (files_before files_after : Filed) (before after : Streams) (err_before err_after : Messages) (report : Report) where
   abbrev c : Call
   c = call_of words files_before files_after before after err_before err_after report
 
-  tree_followed : (file bytes : List ℕ) (it : Answer) → (it.status ≡ 1 → ⊥) → (it.status ≡ 8 → ⊥) → Follows file bytes before after it → (tree : Program) × IsTree bytes tree
+  tree_followed : (file bytes : List ℕ) (it : Answer) → (it.status ≡ 1 → ⊥) → (it.status ≡ 8 → ⊥) → SourceMayAnswer file bytes before after it
+      → (tree : Program) × IsTree bytes tree
   tree_followed file bytes it not_1 not_8 (w.refused first idle) = absurd (not_1 refl)
-  tree_followed file bytes it not_1 not_8 (w.memory_wanted idle) = absurd (not_8 refl)
+  tree_followed file bytes it not_1 not_8 (w.not_compiled idle) = absurd (not_8 refl)
   tree_followed file bytes it not_1 not_8 (w.executed {tree = tree} made executes) = (tree, made.tree_of_it)
 
-  tree_from : (file bytes : List ℕ) (it : Answer) → (it.status ≡ 1 → ⊥) → (it.status ≡ 8 → ⊥) → files_after.faults ≡ files_before.faults → From file bytes files_before files_after before after it
+  tree_from : (file bytes : List ℕ) (it : Answer) → (it.status ≡ 1 → ⊥) → (it.status ≡ 8 → ⊥) → files_after.faults ≡ files_before.faults
+      → SourceCourse file bytes files_before files_after before after it
       → (tree : Program) × IsTree bytes tree
   tree_from file bytes it not_1 not_8 same (failed rose idle) = absurd (omega (arith, rose, same))
-  tree_from file bytes it not_1 not_8 same (wanting files idle) = absurd (not_8 refl)
-  tree_from file bytes it not_1 not_8 same (went files follows) = tree_followed file bytes it not_1 not_8 follows
+  tree_from file bytes it not_1 not_8 same (no_memory files idle) = absurd (not_8 refl)
+  tree_from file bytes it not_1 not_8 same (went_on files follows) = tree_followed file bytes it not_1 not_8 follows
 
-  module _ (it : Answer) (way : Goes words may_fail files_before files_after before after it) (says : Says it err_before err_after report) where
+  module _ (it : Answer) (way : CallMayAnswer words files_before files_after before after it) (says : IsReported it err_before err_after report) where
     means : (status : ℕ) (Is : End → Type 0) → ((e : End) → (e ≡ end.Asks → ⊥) → status_of e ≡ status → Is e) → (status ≡ 1 → ⊥) → RunsAsItMeans c
         → (file bytes left : List ℕ) → IsSource c file bytes → IsInput c left → IsQuiet c → report.status ≡ status → Means bytes left Is
     means status Is forth not_1 runs file bytes left source input quiet is =
-        let it_said : IsSaid it err_before err_after report = said says quiet.err in
-        let found = tree_from file bytes it (λ h. not_1 (sym is ∙ (it_said.status ∙ h))) (λ h. quiet.memory (it_said.status ∙ h)) quiet.files
-        (from_source words may_fail files_before files_after before after err_before err_after report file bytes it source way) in
-        (found.0, found.1, forth (mean found.0 left false turns).end (never_asks found.0 left false turns) (sym (runs file bytes left found.0 source input quiet found.1).status ∙ is))
+        let written : IsWritten it err_before err_after report = written_if_no_fault says quiet.err in
+        let found = tree_from file bytes it (λ h. not_1 (sym is ∙ (written.status ∙ h))) (λ h. quiet.memory (written.status ∙ h)) quiet.files
+        (from_source words files_before files_after before after err_before err_after report file bytes it source way) in (
+          found.0,
+          found.1,
+          forth (mean found.0 left false turns).end (never_asks found.0 left false turns)
+              (sym (runs file bytes left found.0 source input quiet found.1).status ∙ is),
+        )
 
     meant : (status : ℕ) (Is : End → Type 0) → ((e : End) → Is e → status_of e ≡ status) → RunsAsItMeans c
         → (file bytes left : List ℕ) → IsSource c file bytes → IsInput c left → IsQuiet c → Means bytes left Is → report.status ≡ status
-    meant status Is back runs file bytes left source input quiet (tree, is_tree, is) = (runs file bytes left tree source input quiet is_tree).status ∙ back (mean tree left false turns).end is
+    meant status Is back runs file bytes left source input quiet (tree, is_tree, is) = (runs file bytes left tree source input quiet is_tree).status
+        ∙ back (mean tree left false turns).end is
 
     pub answers_0 : RunsAsItMeans c → Answers0 c
-    answers_0 runs file bytes left source input quiet =
-        (means 0 (λ e. e ≡ end.Done) done_0 (λ h. omega arith) runs file bytes left source input quiet, meant 0 (λ e. e ≡ end.Done) (λ e h. ap status_of h) runs file bytes left source input quiet)
+    answers_0 runs file bytes left source input quiet = (
+      means 0 (λ e. e ≡ end.Done) done_0 (λ h. omega arith) runs file bytes left source input quiet,
+      meant 0 (λ e. e ≡ end.Done) (λ e h.
+          ap status_of h) runs file bytes left source input quiet,
+    )
 
     pub answers_3 : RunsAsItMeans c → Answers3 c
-    answers_3 runs file bytes left source input quiet =
-        (means 3 IsTrap trap_3 (λ h. omega arith) runs file bytes left source input quiet, meant 3 IsTrap (λ e h. ap status_of h.2) runs file bytes left source input quiet)
+    answers_3 runs file bytes left source input quiet = (
+      means 3 IsTrap trap_3 (λ h. omega arith) runs file bytes left source input quiet,
+      meant 3 IsTrap (λ e h. ap status_of h.2) runs file bytes
+          left source input quiet,
+    )
 
     pub answers_4 : RunsAsItMeans c → Answers4 c
-    answers_4 runs file bytes left source input quiet =
-        (means 4 (λ e. e ≡ end.Spent) spent_4 (λ h. omega arith) runs file bytes left source input quiet, meant 4 (λ e. e ≡ end.Spent) (λ e h. ap status_of h) runs file bytes left source input quiet)
+    answers_4 runs file bytes left source input quiet = (
+      means 4 (λ e. e ≡ end.Spent) spent_4 (λ h. omega arith) runs file bytes left source input quiet,
+      meant 4 (λ e. e ≡ end.Spent) (λ e h.
+          ap status_of h) runs file bytes left source input quiet,
+    )
 
-    first_executed : (file bytes : List ℕ) (object : _) (it : Answer) → it.status ≡ 1 → Executes file bytes object before after it → ⊥
+    first_executed : (file bytes : List ℕ) (object : _) (it : Answer) → it.status ≡ 1 → RunMayAnswer file bytes object before after it → ⊥
     first_executed file bytes object it is (w.ended {ending = ending} run) = not_one_end ending.end is
-    first_executed file bytes object it is (w.message_wanted run) = omega arith
+    first_executed file bytes object it is (w.ended_without_message run) = omega arith
     first_executed file bytes object it is (w.cut_off {fault = fault} cut) = not_one_cause fault.cause is
 
-    first_followed : (file bytes : List ℕ) (it : Answer) → it.status ≡ 1 → Follows file bytes before after it → (f : Refusal) × IsFirst (Breaks bytes) (Some f)
+    first_followed : (file bytes : List ℕ) (it : Answer) → it.status ≡ 1 → SourceMayAnswer file bytes before after it → (f : Refusal)
+        × IsFirst (Breaks bytes) (Some f)
     first_followed file bytes it is (w.refused {f = f} first idle) = (f, first)
-    first_followed file bytes it is (w.memory_wanted idle) = absurd (omega arith)
+    first_followed file bytes it is (w.not_compiled idle) = absurd (omega arith)
     first_followed file bytes it is (w.executed {object = object} made executes) = absurd (first_executed file bytes object it is executes)
 
-    first_from : (file bytes : List ℕ) (it : Answer) → it.status ≡ 1 → From file bytes files_before files_after before after it → (f : Refusal) × IsFirst (Breaks bytes) (Some f)
+    first_from : (file bytes : List ℕ) (it : Answer) → it.status ≡ 1 → SourceCourse file bytes files_before files_after before after it
+        → (f : Refusal) × IsFirst (Breaks bytes) (Some f)
     first_from file bytes it is (failed rose idle) = absurd (omega arith)
-    first_from file bytes it is (wanting files idle) = absurd (omega arith)
-    first_from file bytes it is (went files follows) = first_followed file bytes it is follows
+    first_from file bytes it is (no_memory files idle) = absurd (omega arith)
+    first_from file bytes it is (went_on files follows) = first_followed file bytes it is follows
 
     pub answers_1 : RefusesTheFirst c → Answers1 c
     answers_1 refuses file bytes source quiet =
-        let it_said : IsSaid it err_before err_after report = said says quiet.err in (
-          (λ is. first_from file bytes it (sym it_said.status ∙ is) (from_source words may_fail files_before files_after before after err_before err_after report file bytes it source way)),
+        let written : IsWritten it err_before err_after report = written_if_no_fault says quiet.err in (
+          (λ is. first_from file bytes it (sym written.status
+              ∙ is) (from_source words files_before files_after before after err_before err_after report file bytes it source way)),
           (λ (f, first). (refuses file bytes f source quiet first).status),
         )

@@ -1,5 +1,6 @@
 -- What is found in a part of a tree, and what the table of meanings says of its nodes.
-use Rattle.std.proofs.Common.{◌≡◌, ◌<◌, ◌≤◌, ◌+◌, ◌⊎◌, inl, inr, ⊎_elim, ℕ, zero, suc, List, [], ◌∷◌, ◌++◌, Option, Some, None, Bool, true, false, not, refl, ap, arith, Contains, replicate, slice_get, slice_set}
+use Rattle.std.proofs.Common.{◌≡◌, ◌<◌, ◌≤◌, ◌+◌, ◌⊎◌, inl, inr, ⊎_elim, ℕ, zero, suc, List, [], ◌∷◌, ◌++◌, Option, Some, None, Bool, true, false}
+use Rattle.std.proofs.Common.{not, refl, ap, arith, Contains, replicate, slice_get, slice_set}
 use Rattle.hy_base.specs.declared.position.Span.{Span}
 use Rattle.hy_base.specs.declared.refusal.Rule.{Rule}
 use Rattle.hy_base.specs.declared.refusal.Rule.TheVariants.{N1}
@@ -83,16 +84,18 @@ pub record Part (meant : Table) (a b : ℕ) (fs : List Finding) : Type 0 where
 pub narrow : {meant : Table} {fs : List Finding} (a b c d : ℕ) → a ≤ c → d ≤ b → Part meant a b fs → Part meant c d fs
 narrow a b c d low high p = record { found = λ n k from to at. p.found n k (omega (arith, low, from)) (omega (arith, high, to)) at; sound = p.sound }
 
--- what stands before others, and behind others
+-- the first part of what is found, and the later part
 pub before : {meant : Table} (a b c : ℕ) (xs ys : List Finding) → b ≤ c → Within b c ys → Part meant a c (xs ++ ys) → Part meant a b xs
 before a b c xs ys le w p = record {
-  found = λ n k from to at. ⊎_elim (λ i. i) (λ i. let there = (w n (meaning.Local k) i).0 in absurd (omega (arith, there, to))) (parted (Stands n (meaning.Local k)) xs ys (p.found n k from (omega (arith, le, to)) at));
+  found = λ n k from to at. ⊎_elim (λ i. i) (λ i. let there = (w n (meaning.Local k) i).0 in absurd (omega (arith, there, to)))
+      (parted (Stands n (meaning.Local k)) xs ys (p.found n k from (omega (arith, le, to)) at));
   sound = λ rule span i. p.sound rule span (first_of_two (Broken rule span) xs ys i);
 }
 
-pub behind : {meant : Table} (a b c : ℕ) (xs ys : List Finding) → a ≤ b → Within a b xs → Part meant a c (xs ++ ys) → Part meant b c ys
-behind a b c xs ys le w p = record {
-  found = λ n k from to at. ⊎_elim (λ i. let there = (w n (meaning.Local k) i).1 in absurd (omega (arith, there, from))) (λ i. i) (parted (Stands n (meaning.Local k)) xs ys (p.found n k (omega (arith, le, from)) to at));
+pub later_part : {meant : Table} (a b c : ℕ) (xs ys : List Finding) → a ≤ b → Within a b xs → Part meant a c (xs ++ ys) → Part meant b c ys
+later_part a b c xs ys le w p = record {
+  found = λ n k from to at. ⊎_elim (λ i. let there = (w n (meaning.Local k) i).1 in absurd (omega (arith, there, from))) (λ i.
+      i) (parted (Stands n (meaning.Local k)) xs ys (p.found n k (omega (arith, le, from)) to at));
   sound = λ rule span i. p.sound rule span (last_of_two (Broken rule span) xs ys i);
 }
 
@@ -106,10 +109,12 @@ set_got (y ∷ ys) (suc i) zero a x h = inr h
 set_got (y ∷ ys) (suc i) (suc n) a x h = ⊎_elim (λ e. inl (ap suc e.0, e.1)) (λ g. inr g) (set_got ys i n a x h)
 
 -- what the table has was there, or is found
-stood_found : (fs : List Finding) (table : List Meant) (n : ℕ) (m : Meant) → slice_get (stood fs table) n ≡ Some m → In (Stands n m) fs ⊎ (slice_get table n ≡ Some m)
+stood_found : (fs : List Finding) (table : List Meant) (n : ℕ) (m : Meant) → slice_get (stood fs table) n ≡ Some m → In (Stands n m) fs
+    ⊎ (slice_get table n ≡ Some m)
 stood_found [] table n m h = inr h
 stood_found (Stands node x ∷ fs) table n m h =
-    ⊎_elim (λ i. inl (inr i)) (λ g. ⊎_elim (λ e. inl (inl (λ i. Stands (e.0 i) (e.1 i)))) (λ g. inr g) (set_got table node n x m g)) (stood_found fs (slice_set table node x) n m h)
+    ⊎_elim (λ i. inl (inr i)) (λ g. ⊎_elim (λ e. inl (inl (λ i. Stands (e.0 i) (e.1 i)))) (λ g. inr g) (set_got table node n x m g))
+    (stood_found fs (slice_set table node x) n m h)
 stood_found (Broken rule span ∷ fs) table n m h = ⊎_elim (λ i. inl (inr i)) (λ g. inr g) (stood_found fs table n m h)
 
 no_variable : (size n k : ℕ) → slice_get (replicate size meaning.Nothing) n ≡ Some (meaning.Local k) → ⊥
@@ -118,7 +123,8 @@ no_variable (suc size) zero k h = cc
 no_variable (suc size) (suc n) k h = no_variable size n k h
 
 -- all that is found in a tree
-pub whole : (fs : List Finding) (size a b : ℕ) → ((rule : Rule) (span : Span) → Contains fs (Broken rule span) → ⊥) → Part (stood fs (replicate size meaning.Nothing)) a b fs
+pub whole : (fs : List Finding) (size a b : ℕ) → ((rule : Rule) (span : Span) → Contains fs (Broken rule span) → ⊥)
+    → Part (stood fs (replicate size meaning.Nothing)) a b fs
 whole fs size a b sound = record {
   found = λ n k from to at. ⊎_elim (λ i. i) (λ g. absurd (no_variable size n k g)) (stood_found fs (replicate size meaning.Nothing) n (meaning.Local k) at);
   sound = λ rule span i. sound rule span (contained (Broken rule span) fs i);

@@ -68,9 +68,11 @@ assigned_value meant value h = none_last (X.when (X.is_place value) (T.at_expr v
 
 -- the steps of a call of `print`, where `print` says that the name is that
 pub data IsPrinted (meant : X.Table) (m : ℕ) : T.Steps → Bool → Type 0 where
-  is_printed : (value : T.Expr) (at : T.At) → X.in_expr meant (number_expr (m + 1) value) ≡ [] → IsPrinted meant m (T.ThenStep (T.CallStep (T.ThenArg None value T.NoArg) at) T.NoStep) true
+  is_printed : (value : T.Expr) (at : T.At) → X.in_expr meant (number_expr (m + 1) value) ≡ []
+      → IsPrinted meant m (T.ThenStep (T.CallStep (T.ThenArg None value T.NoArg) at) T.NoStep) true
 
-pub printed_steps : (meant : X.Table) (m : ℕ) (steps : T.Steps) (print : Bool) (e : T.Expr) (span : Span) → X.in_printed meant e span (if print then only_call (number_steps m steps) else None) ≡ [] → IsPrinted meant m steps print
+pub printed_steps : (meant : X.Table) (m : ℕ) (steps : T.Steps) (print : Bool) (e : T.Expr) (span : Span)
+    → X.in_printed meant e span (if print then only_call (number_steps m steps) else None) ≡ [] → IsPrinted meant m steps print
 printed_steps meant m (T.ThenStep (T.CallStep (T.ThenArg None value T.NoArg) at) T.NoStep) true e span h =
     is_printed value at (none_last (X.when (X.is_discarded e span) span) (X.in_expr meant (number_expr (m + 1) value)) h)
 printed_steps meant m T.NoStep true e span h = absurd (some_none span (X.in_expr meant e) h)
@@ -80,7 +82,8 @@ printed_steps meant m (T.ThenStep (T.PartStep number at) T.NoStep) true e span h
 printed_steps meant m (T.ThenStep (T.IndexStep args at) T.NoStep) true e span h = absurd (some_none span (X.in_expr meant e) h)
 printed_steps meant m (T.ThenStep (T.CallStep T.NoArg at) T.NoStep) true e span h = absurd (some_none span (X.in_expr meant e) h)
 printed_steps meant m (T.ThenStep (T.CallStep (T.ThenArg (Some label) value more) at) T.NoStep) true e span h = absurd (some_none span (X.in_expr meant e) h)
-printed_steps meant m (T.ThenStep (T.CallStep (T.ThenArg None value (T.ThenArg label other more)) at) T.NoStep) true e span h = absurd (some_none span (X.in_expr meant e) h)
+printed_steps meant m (T.ThenStep (T.CallStep (T.ThenArg None value (T.ThenArg label other more)) at) T.NoStep) true e span h =
+    absurd (some_none span (X.in_expr meant e) h)
 printed_steps meant m steps false e span h = absurd (some_none span (X.in_expr meant e) h)
 
 -- DECLARATIONS
@@ -102,13 +105,13 @@ pub record IsBare (c : T.Callable) : Type 0 where
 pub bare_main : (c : T.Callable) → is_main (T.DeclCallable c) ≡ true → IsBare c
 bare_main c h =
     let name = bytes_eq (base_text c.name) (codes "main") in
-    let behind_kind = last_true (is_function c.kind) (name && (none c.generics && (none c.params && not (is_there c.result)))) h in
-    let behind_name = last_true name (none c.generics && (none c.params && not (is_there c.result))) behind_kind in
-    let behind_generics = last_true (none c.generics) (none c.params && not (is_there c.result)) behind_name in
+    let after_kind = last_true (is_function c.kind) (name && (none c.generics && (none c.params && not (is_there c.result)))) h in
+    let after_name = last_true name (none c.generics && (none c.params && not (is_there c.result))) after_kind in
+    let after_generics = last_true (none c.generics) (none c.params && not (is_there c.result)) after_name in
     record {
-      generics = empty_list c.generics (first_true (none c.generics) (none c.params && not (is_there c.result)) behind_name);
-      params = empty_list c.params (first_true (none c.params) (not (is_there c.result)) behind_generics);
-      result = nothing_there c.result (not_true (is_there c.result) (last_true (none c.params) (not (is_there c.result)) behind_generics));
+      generics = empty_list c.generics (first_true (none c.generics) (none c.params && not (is_there c.result)) after_name);
+      params = empty_list c.params (first_true (none c.params) (not (is_there c.result)) after_generics);
+      result = nothing_there c.result (not_true (is_there c.result) (last_true (none c.params) (not (is_there c.result)) after_generics));
     }
   where
     not_true : (b : Bool) → not b ≡ true → b ≡ false
@@ -118,7 +121,10 @@ bare_main c h =
 -- each declaration is `main`
 pub declares_main : (meant : X.Table) (decl : T.Decl) → X.in_decl meant decl ≡ [] → is_main decl.kind ≡ true
 declares_main meant decl h =
-    known_is (is_main decl.kind) (last_false decl.public (not (is_main decl.kind)) (not_when (decl.public || not (is_main decl.kind)) decl.at.span (none_first (X.when (decl.public || not (is_main decl.kind)) decl.at.span) (X.in_decl_kind meant decl.kind) h)))
+    known_is (is_main decl.kind)
+    (last_false decl.public (not (is_main decl.kind))
+    (not_when (decl.public || not (is_main decl.kind)) decl.at.span (none_first (X.when (decl.public || not (is_main decl.kind)) decl.at.span)
+    (X.in_decl_kind meant decl.kind) h)))
 
 pub variants_free : (meant : X.Table) (main : Bool) (c : T.Callable) → X.in_callable meant main c ≡ [] → X.in_variants meant c.variants ≡ []
 variants_free meant main c h =
@@ -126,4 +132,6 @@ variants_free meant main c h =
     let params = X.in_params c.params in
     let written = X.in_written c.result in
     let variants = X.in_variants meant c.variants in
-    none_last written variants (none_last params (written ++ variants) (none_last generics (params ++ (written ++ variants)) (none_last (X.when (not main) c.at.span) (generics ++ (params ++ (written ++ variants))) h)))
+    none_last written variants
+    (none_last params (written ++ variants)
+    (none_last generics (params ++ (written ++ variants)) (none_last (X.when (not main) c.at.span) (generics ++ (params ++ (written ++ variants))) h)))

@@ -1,5 +1,6 @@
 -- Keys that are seen through a function f, as a `Vec` is as its bytes.
-use Rattle.std.proofs.Common.{◌≡◌, ℕ, ◌+◌, Bool, true, false, ◌||◌, cond, not, List, [], ◌∷◌, ◌++◌, map, get_or, position, nat_lt, is_some, if◌then◌else◌, Option, None, Some, refl, sym, ap, ◌∙◌, true≢false}
+use Rattle.std.proofs.Common.{◌≡◌, ℕ, ◌+◌, Bool, true, false, ◌||◌, cond, not, List, [], ◌∷◌, ◌++◌, map, get_or, position, nat_lt, is_some}
+use Rattle.std.proofs.Common.{if◌then◌else◌, Option, None, Some, refl, sym, ap, ◌∙◌, true≢false}
 use Rattle.std.specs.List.{list_any, position_or_len, Contains, IsDistinct, AllByRecursion}
 use Rattle.std.specs.Str.{bytes_eq}
 use Rattle.std.specs.Cmp.Lexicographic.{nat_list_eq_equiv}
@@ -24,7 +25,8 @@ module _ {K : Type 0} (f : K → List ℕ) (test : List ℕ → Bool) where
   position-map ks = λ i. cond (nat_lt (position_or_len-map ks i) (sym (length-map ks f) i)) (Some (position_or_len-map ks i)) None
 
 module _ {K : Type 0} (f : K → List ℕ) where
-  apart : (k : K) (ks : List K) (eq : List ℕ → List ℕ → Bool) → AllByRecursion (λ x. eq (f k) (f x) ≡ false) ks → AllByRecursion (λ x. eq (f k) x ≡ false) (map f ks)
+  apart : (k : K) (ks : List K) (eq : List ℕ → List ℕ → Bool) → AllByRecursion (λ x. eq (f k) (f x) ≡ false) ks
+      → AllByRecursion (λ x. eq (f k) x ≡ false) (map f ks)
   apart k [] eq h = tt
   apart k (x ∷ ks) eq h = (h.0, apart k ks eq h.1)
 
@@ -41,7 +43,8 @@ pub missing : (name : List ℕ) (names : List (List ℕ)) → list_any (bytes_eq
 missing name names h there = true≢false (sym (list_any-from_Contains nat_list_eq_equiv name names there) ∙ h)
 
 -- what a look-up finds
-pub finds : (name : List ℕ) (names : List (List ℕ)) (r : Option ℕ) → r ≡ position (bytes_eq name) names → is_some r ≡ list_any (bytes_eq name) names → Finds name r names
+pub finds : (name : List ℕ) (names : List (List ℕ)) (r : Option ℕ) → r ≡ position (bytes_eq name) names → is_some r ≡ list_any (bytes_eq name) names
+    → Finds name r names
 finds name names None h s = missing name names (sym s)
 finds name names (Some i) h s =
     let at = position-Some (bytes_eq name) names i [] (sym h) in

@@ -1,5 +1,6 @@
 -- The run of the code of a tree leads where the tree's meaning says.
-use Rattle.std.proofs.Common.{◌≡◌, ℕ, zero, suc, ◌+◌, ◌-◌, ◌<◌, ◌≤◌, Bool, true, false, ℤ, List, [], ◌∷◌, ◌++◌, length, take, drop, set, Option, Some, None, slice_get, Contains, refl, sym, ap, ◌∙◌, subst, arith}
+use Rattle.std.proofs.Common.{◌≡◌, ℕ, zero, suc, ◌+◌, ◌-◌, ◌<◌, ◌≤◌, Bool, true, false, ℤ, List, [], ◌∷◌, ◌++◌, length, take, drop, set, Option, Some}
+use Rattle.std.proofs.Common.{None, slice_get, Contains, refl, sym, ap, ◌∙◌, subst, arith}
 use Rattle.std.specs.Prelude.{if◌then◌else◌, ◌&&◌, nat_lt, nat_le, ◌+ℤ◌}
 use Rattle.std.proofs.lemmas.Bool.{le-leb, le-ltb}
 use Rattle.std.proofs.lemmas.List.{length-append}
@@ -14,7 +15,8 @@ use Rattle.hy_tree.specs.Tree.{Program}
 use Rattle.hy_meaning.specs.Forms.{first_of, links_of, printed, target_of, main_of}
 use Rattle.hy_driver.specs.Scopes.{Scope, is_known, with_name}
 use Rattle.hy_meaning.specs.Meaning as M
-use Rattle.hy_meaning.specs.Meaning.{Env, Value, Int, look, put, declare, number_in, operand_value, Outcome, Gives, Stops, Flow, Next, Over, then_do, and_then, checked, add_all, eval, print_value, exec, block, write}
+use Rattle.hy_meaning.specs.Meaning.{Env, Value, Int, look, put, declare, number_in, operand_value, Outcome, Gives, Stops, Flow, Next, Over, then_do}
+use Rattle.hy_meaning.specs.Meaning.{and_then, checked, add_all, eval, print_value, exec, block, write}
 use Rattle.hy_object.specs.declared.object.Object.{Object}
 use Rattle.hy_object.specs.declared.instr.Instr.{Instr}
 use Rattle.hy_object.specs.declared.instr.Instr.TheVariants as instr
@@ -27,11 +29,12 @@ use Rattle.hy_object.specs.Checks.{span_of}
 use Rattle.hy_object.specs.Runs.{Run}
 use Rattle.hy_object.specs.States.{Ended, Allocated, Freed}
 use Rattle.hy_machine.specs.Machine.{State, check, reach, all_set, with_window, goes_on, fits, add, overlap, does, code, fetched, step, steps, seen, IsSeen}
-use Rattle.hy_driver.specs.Lower.{place_of, variable, own, load, more_code, sum_code, store, print_code, stmt_code, spans_behind, printed_links, links_in, declares, block_code, more_spans, stmt_spans, block_spans, declared, lowered}
+use Rattle.hy_driver.specs.Lower.{place_of, variable, own, load, more_code, sum_code, store, print_code, stmt_code, spans_after, printed_links}
+use Rattle.hy_driver.specs.Lower.{links_in, declares, block_code, more_spans, stmt_spans, block_spans, declared, lowered}
 use Rattle.hy_driver.proofs.Frames.{names, cells, names_put, names_declare, known, assigned, length_scope, added, length_cells, window_one, put_one}
 use Rattle.hy_driver.proofs.Known.{Knows, KnowsAll, KnowsSum, KnowsPrinted, IsNamedStmt, IsNamed}
 
--- what stands at a place of a list, and behind it
+-- what stands at a place of a list, and after it
 pub found : {A : Type 0} (xs : List A) (p : ℕ) (x : A) (rest : List A) → drop p xs ≡ x ∷ rest → slice_get xs p ≡ Some x
 found [] zero x rest h = cc
 found [] (suc p) x rest h = cc
@@ -44,13 +47,15 @@ next_one [] (suc p) x rest h = cc
 next_one (y ∷ xs) zero x rest h = cc
 next_one (y ∷ xs) (suc p) x rest h = next_one xs p x rest h
 
-pub behind_it : {A : Type 0} (xs : List A) (p : ℕ) (x : A) (rest : List A) → drop p xs ≡ x ∷ rest → drop (p + 1) xs ≡ rest
-behind_it xs p x rest h = let e : p + 1 ≡ suc p = omega arith in ap (λ q. drop q xs) e ∙ next_one xs p x rest h
+pub after_it : {A : Type 0} (xs : List A) (p : ℕ) (x : A) (rest : List A) → drop p xs ≡ x ∷ rest → drop (p + 1) xs ≡ rest
+after_it xs p x rest h = let e : p + 1 ≡ suc p = omega arith in ap (λ q. drop q xs) e ∙ next_one xs p x rest h
 
--- the spans behind those of a sum
-pub spans_left : (spans : List Span) (links : T.Links) (span : ℕ) (rest : List Span) → drop span spans ≡ more_spans links rest → drop (spans_behind span links) spans ≡ rest
+-- the spans after those of a sum
+pub spans_left : (spans : List Span) (links : T.Links) (span : ℕ) (rest : List Span) → drop span spans ≡ more_spans links rest
+    → drop (spans_after span links) spans ≡ rest
 spans_left spans T.NoLink span rest h = h
-spans_left spans (T.ThenLink operator token operand at links) span rest h = spans_left spans links (suc span) rest (next_one spans span at.span (more_spans links rest) h)
+spans_left spans (T.ThenLink operator token operand at links) span rest h =
+    spans_left spans links (suc span) rest (next_one spans span at.span (more_spans links rest) h)
 
 -- the counts of `main` while it runs
 abbrev pub running : Counts
@@ -62,7 +67,13 @@ stopped_run input e output = record { output = output; stop = Ended e; taken = l
 
 -- a run of `main` to its end
 abbrev pub done_run : List ℕ → List ℕ → Run
-done_run input output = record { output = output; stop = Ended end.Done; taken = length input - length input; counts = record running { freed = 1 }; journal = Allocated 0 ∷ (Freed 0 ∷ []) }
+done_run input output = record {
+  output = output;
+  stop = Ended end.Done;
+  taken = length input - length input;
+  counts = record running { freed = 1 };
+  journal = Allocated 0 ∷ (Freed 0 ∷ []);
+}
 
 abbrev pub run_of : List ℕ → Flow → Run
 run_of input (Next env s) = done_run input s.output
@@ -86,7 +97,17 @@ declared_grows scope (T.ThenStmt m stmts) = let e = declared_grows (declares sco
 
 module _ (object : Object) (input : List ℕ) (left : ℕ) (r : Run) where
   abbrev here : List Cell → ℕ → List ℕ → State
-  here frame place output = record { frame = frame; place = place; input = input; output = output; left = left; counts = running; journal = Allocated 0 ∷ []; stop = None }
+  here frame place output = record {
+    frame = frame;
+    place = place;
+    input = input;
+    output = output;
+    left = left;
+    counts = running;
+    journal =
+        Allocated 0 ∷ [];
+    stop = None;
+  }
 
   -- the run from this state ends as `r` is
   record Ends (s : State) : Type 0 where
@@ -96,42 +117,54 @@ module _ (object : Object) (input : List ℕ) (left : ℕ) (r : Run) where
   before : (s : State) → Ends (step object s) → Ends s
   before s h = record { count = suc h.count; same = h.same }
 
-  runs : (frame : List Cell) (place : ℕ) (output : List ℕ) (i : Instr) → slice_get (code object) place ≡ Some i → Ends (does object (here frame place output) i) → Ends (here frame place output)
+  runs : (frame : List Cell) (place : ℕ) (output : List ℕ) (i : Instr) → slice_get (code object) place ≡ Some i
+      → Ends (does object (here frame place output) i) → Ends (here frame place output)
   runs frame place output i is h = before (here frame place output) (subst (λ o. Ends (fetched object (here frame place output) o)) (sym is) h)
 
   passes : (s : State) (kind : Kind) (b : Bool) (next : State) → b ≡ true → Ends next → Ends (check s kind b next)
   passes s kind b next is h = subst (λ b. Ends (check s kind b next)) (sym is) h
 
-  -- a variable goes to the accumulator, or to the word behind it
-  copy_first : (a t : Cell) (xs : List Cell) (place p : ℕ) (output : List ℕ) (n : ℤ) → slice_get xs p ≡ Some (Word n) → Ends (here (Word n ∷ t ∷ xs) (place + 1) output) →
+  -- a variable goes to the accumulator, or to the word after it
+  copy_first : (a t : Cell) (xs : List Cell) (place p : ℕ) (output : List ℕ) (n : ℤ) → slice_get xs p ≡ Some (Word n)
+      → Ends (here (Word n ∷ t ∷ xs) (place + 1) output) →
       Ends (does object (here (a ∷ t ∷ xs) place output) (instr.Copy (own 0) (own (variable p)) 1))
   copy_first a t xs place p output n is h =
       let s : State = here (a ∷ t ∷ xs) place output in
       let lt : p < length xs = slice_get_within xs p (Word n) is in
       let go : List Cell → State = λ w. check s kind.Unset (all_set w) (goes_on s (with_window (a ∷ t ∷ xs) 0 w)) in
-      passes s kind.Range (nat_le 1 (suc (suc (length xs)))) (reach s (own (variable p)) 1 (go (take 1 (drop p xs)))) (le-leb 1 (suc (suc (length xs))) (omega arith))
-      (passes s kind.Range (nat_le (suc (suc p) + 1) (suc (suc (length xs)))) (go (take 1 (drop p xs))) (le-leb (suc (suc p) + 1) (suc (suc (length xs))) (omega arith))
+      passes s kind.Range (nat_le 1 (suc (suc (length xs)))) (reach s (own (variable p)) 1 (go (take 1 (drop p xs))))
+      (le-leb 1 (suc (suc (length xs))) (omega arith))
+      (passes s kind.Range (nat_le (suc (suc p) + 1) (suc (suc (length xs)))) (go (take 1 (drop p xs)))
+      (le-leb (suc (suc p) + 1) (suc (suc (length xs))) (omega arith))
       (subst (λ w. Ends (go w)) (sym (window_one xs p (Word n) is)) h))
 
-  copy_second : (a t : Cell) (xs : List Cell) (place p : ℕ) (output : List ℕ) (n : ℤ) → slice_get xs p ≡ Some (Word n) → Ends (here (a ∷ Word n ∷ xs) (place + 1) output) →
+  copy_second : (a t : Cell) (xs : List Cell) (place p : ℕ) (output : List ℕ) (n : ℤ) → slice_get xs p ≡ Some (Word n)
+      → Ends (here (a ∷ Word n ∷ xs) (place + 1) output) →
       Ends (does object (here (a ∷ t ∷ xs) place output) (instr.Copy (own 1) (own (variable p)) 1))
   copy_second a t xs place p output n is h =
       let s : State = here (a ∷ t ∷ xs) place output in
       let lt : p < length xs = slice_get_within xs p (Word n) is in
       let go : List Cell → State = λ w. check s kind.Unset (all_set w) (goes_on s (with_window (a ∷ t ∷ xs) 1 w)) in
-      passes s kind.Range (nat_le 2 (suc (suc (length xs)))) (reach s (own (variable p)) 1 (go (take 1 (drop p xs)))) (le-leb 2 (suc (suc (length xs))) (omega arith))
-      (passes s kind.Range (nat_le (suc (suc p) + 1) (suc (suc (length xs)))) (go (take 1 (drop p xs))) (le-leb (suc (suc p) + 1) (suc (suc (length xs))) (omega arith))
+      passes s kind.Range (nat_le 2 (suc (suc (length xs)))) (reach s (own (variable p)) 1 (go (take 1 (drop p xs))))
+      (le-leb 2 (suc (suc (length xs))) (omega arith))
+      (passes s kind.Range (nat_le (suc (suc p) + 1) (suc (suc (length xs)))) (go (take 1 (drop p xs)))
+      (le-leb (suc (suc p) + 1) (suc (suc (length xs))) (omega arith))
       (subst (λ w. Ends (go w)) (sym (window_one xs p (Word n) is)) h))
 
   -- the accumulator goes to a variable
-  stores : (n : ℤ) (t : Cell) (xs : List Cell) (place p : ℕ) (output : List ℕ) → p < length xs → Ends (here (Unset ∷ t ∷ set xs p (Word n)) (place + 1) output) →
+  stores : (n : ℤ) (t : Cell) (xs : List Cell) (place p : ℕ) (output : List ℕ) → p < length xs
+      → Ends (here (Unset ∷ t ∷ set xs p (Word n)) (place + 1) output) →
       Ends (does object (here (Word n ∷ t ∷ xs) place output) (store p))
   stores n t xs place p output lt h =
       let s : State = here (Word n ∷ t ∷ xs) place output in
       let go : State = goes_on s (with_window (Unset ∷ t ∷ xs) (variable p) (Word n ∷ [])) in
-      let apart : (if overlap (variable p) 0 1 then false else true) ≡ true = ap (λ b. if b && nat_lt 0 (suc (suc p) + 1) then false else true) (le-ltb (suc (suc p)) 1 (omega arith)) in
-      passes s kind.Range (nat_le (suc (suc p) + 1) (suc (suc (length xs)))) (reach s (own 0) 1 (check s kind.Range (if overlap (variable p) 0 1 then false else true) go)) (le-leb (suc (suc p) + 1) (suc (suc (length xs))) (omega arith))
-      (passes s kind.Range (nat_le 1 (suc (suc (length xs)))) (check s kind.Range (if overlap (variable p) 0 1 then false else true) go) (le-leb 1 (suc (suc (length xs))) (omega arith))
+      let apart : (if overlap (variable p) 0 1 then false else true) ≡ true =
+      ap (λ b. if b && nat_lt 0 (suc (suc p) + 1) then false else true) (le-ltb (suc (suc p)) 1 (omega arith)) in
+      passes s kind.Range (nat_le (suc (suc p) + 1) (suc (suc (length xs))))
+      (reach s (own 0) 1 (check s kind.Range (if overlap (variable p) 0 1 then false else true) go))
+      (le-leb (suc (suc p) + 1) (suc (suc (length xs))) (omega arith))
+      (passes s kind.Range (nat_le 1 (suc (suc (length xs)))) (check s kind.Range (if overlap (variable p) 0 1 then false else true) go)
+      (le-leb 1 (suc (suc (length xs))) (omega arith))
       (passes s kind.Range (if overlap (variable p) 0 1 then false else true) go apart
       (subst (λ frame. Ends (goes_on s frame)) (sym (put_one Unset t xs p (Word n) lt)) h)))
 
@@ -144,7 +177,8 @@ module _ (object : Object) (input : List ℕ) (left : ℕ) (r : Run) where
   Flows N (Next env s) = N env s
   Flows N (Over e s) = stopped_run input e s.output ≡ r
 
-  then_follows : (N : Env → M.State → Type 0) (o : Outcome) (f : Value → Env → M.State → Flow) → Flows N (then_do o f) → Follows (λ n env s. Flows N (f (Int n) env s)) o
+  then_follows : (N : Env → M.State → Type 0) (o : Outcome) (f : Value → Env → M.State → Flow) → Flows N (then_do o f)
+      → Follows (λ n env s. Flows N (f (Int n) env s)) o
   then_follows N (Gives (Int n) env s) f h = h
   then_follows N (Stops e s) f h = h
 
@@ -161,16 +195,20 @@ module _ (object : Object) (input : List ℕ) (left : ℕ) (r : Run) where
   more_flow N N' (Over e s) f h = h
 
   module _ (scope : Scope) (env : Env) (k : ℕ) (same : names env ≡ scope) where
-    -- an operand goes to the accumulator, or to the word behind it
-    load_first : (o : T.Expr) → Knows scope o → (a t : Cell) (place : ℕ) (output : List ℕ) → Ends (here (Word (operand_value env o) ∷ t ∷ cells env k) (place + 1) output) →
+    -- an operand goes to the accumulator, or to the word after it
+    load_first : (o : T.Expr) → Knows scope o → (a t : Cell) (place : ℕ) (output : List ℕ)
+        → Ends (here (Word (operand_value env o) ∷ t ∷ cells env k) (place + 1) output) →
         Ends (does object (here (a ∷ t ∷ cells env k) place output) (load scope 0 o))
-    load_first (T.Named name at) there a t place output h = copy_first a t (cells env k) place (place_of scope name.text) output (number_in (look env name.text)) (known scope env k same name.text there) h
+    load_first (T.Named name at) there a t place output h =
+        copy_first a t (cells env k) place (place_of scope name.text) output (number_in (look env name.text)) (known scope env k same name.text there) h
     load_first (T.Number n at) there a t place output h = h
     load_first o there a t place output h = h
 
-    load_second : (o : T.Expr) → Knows scope o → (a t : Cell) (place : ℕ) (output : List ℕ) → Ends (here (a ∷ Word (operand_value env o) ∷ cells env k) (place + 1) output) →
+    load_second : (o : T.Expr) → Knows scope o → (a t : Cell) (place : ℕ) (output : List ℕ)
+        → Ends (here (a ∷ Word (operand_value env o) ∷ cells env k) (place + 1) output) →
         Ends (does object (here (a ∷ t ∷ cells env k) place output) (load scope 1 o))
-    load_second (T.Named name at) there a t place output h = copy_second a t (cells env k) place (place_of scope name.text) output (number_in (look env name.text)) (known scope env k same name.text there) h
+    load_second (T.Named name at) there a t place output h =
+        copy_second a t (cells env k) place (place_of scope name.text) output (number_in (look env name.text)) (known scope env k same name.text there) h
     load_second (T.Number n at) there a t place output h = h
     load_second o there a t place output h = h
 
@@ -178,9 +216,11 @@ module _ (object : Object) (input : List ℕ) (left : ℕ) (r : Run) where
     abbrev Lands : List Instr → ℤ → Env → M.State → Type 0
     Lands rest n env' s' = env' ≡ env → (t : Cell) (place : ℕ) → drop place (code object) ≡ rest → Ends (here (Word n ∷ t ∷ cells env k) place s'.output)
 
-    add_at : (b : Bool) (n : ℤ) (span : Span) (go : ℤ → Outcome) (a m : ℤ) (place : ℕ) (s : M.State) (G : ℤ → Env → M.State → Type 0) → Follows G (checked b n span env s go) →
+    add_at : (b : Bool) (n : ℤ) (span : Span) (go : ℤ → Outcome) (a m : ℤ) (place : ℕ) (s : M.State) (G : ℤ → Env → M.State → Type 0)
+        → Follows G (checked b n span env s go) →
         (Follows G (go n) → Ends (here (Word n ∷ Word m ∷ cells env k) (place + 1) s.output)) →
-        Ends (if b then here (Word n ∷ Word m ∷ cells env k) (place + 1) s.output else record (here (Word a ∷ Word m ∷ cells env k) place s.output) { stop = Some (Ended (end.Trap trap.Overflow span)) })
+        Ends (if b then here (Word n ∷ Word m ∷ cells env k) (place + 1) s.output else record (here (Word a ∷ Word m ∷ cells env k) place s.output)
+        { stop = Some (Ended (end.Trap trap.Overflow span)) })
     add_at true n span go a m place s G h on = on h
     add_at false n span go a m place s G h on = record { count = zero; same = ap Some h }
 
@@ -190,14 +230,17 @@ module _ (object : Object) (input : List ℕ) (left : ℕ) (r : Run) where
     more_ok T.NoLink span n s rest rest_spans t place knows is spans h = h refl t place is
     more_ok (T.ThenLink operator token operand at links) span n s rest rest_spans t place knows is spans h =
         let m : ℤ = operand_value env operand in
-        let behind_load = behind_it (code object) place (load scope 1 operand) (instr.Add 0 0 1 span ∷ more_code scope (suc span) links rest) is in
-        runs (Word n ∷ t ∷ cells env k) place s.output (load scope 1 operand) (found (code object) place (load scope 1 operand) (instr.Add 0 0 1 span ∷ more_code scope (suc span) links rest) is)
+        let after_load = after_it (code object) place (load scope 1 operand) (instr.Add 0 0 1 span ∷ more_code scope (suc span) links rest) is in
+        runs (Word n ∷ t ∷ cells env k) place s.output (load scope 1 operand)
+        (found (code object) place (load scope 1 operand) (instr.Add 0 0 1 span ∷ more_code scope (suc span) links rest) is)
         (load_second operand knows.0 (Word n) t place s.output
-        (runs (Word n ∷ Word m ∷ cells env k) (place + 1) s.output (instr.Add 0 0 1 span) (found (code object) (place + 1) (instr.Add 0 0 1 span) (more_code scope (suc span) links rest) behind_load)
-        (subst (λ o. Ends (add (here (Word n ∷ Word m ∷ cells env k) (place + 1) s.output) 0 (span_of o) (n +ℤ m))) (sym (found object.spans span at.span (more_spans links rest_spans) spans))
+        (runs (Word n ∷ Word m ∷ cells env k) (place + 1) s.output (instr.Add 0 0 1 span)
+        (found (code object) (place + 1) (instr.Add 0 0 1 span) (more_code scope (suc span) links rest) after_load)
+        (subst (λ o. Ends (add (here (Word n ∷ Word m ∷ cells env k) (place + 1) s.output) 0 (span_of o) (n +ℤ m)))
+        (sym (found object.spans span at.span (more_spans links rest_spans) spans))
         (add_at (fits (n +ℤ m)) (n +ℤ m) at.span (λ n. add_all n links env s) n m (place + 1) s (Lands rest) h
         (more_ok links (suc span) (n +ℤ m) s rest rest_spans (Word m) (place + 1 + 1) knows.1
-        (behind_it (code object) (place + 1) (instr.Add 0 0 1 span) (more_code scope (suc span) links rest) behind_load)
+        (after_it (code object) (place + 1) (instr.Add 0 0 1 span) (more_code scope (suc span) links rest) after_load)
         (next_one object.spans span at.span (more_spans links rest_spans) spans))))))
 
     sum_ok : (value : T.Expr) (span : ℕ) (s : M.State) (rest : List Instr) (rest_spans : List Span) (a t : Cell) (place : ℕ) → KnowsSum scope value →
@@ -207,23 +250,29 @@ module _ (object : Object) (input : List ℕ) (left : ℕ) (r : Run) where
         let it : Instr = load scope 0 (first_of value) in
         runs (a ∷ t ∷ cells env k) place s.output it (found (code object) place it (more_code scope span (links_of value) rest) is)
         (load_first (first_of value) knows.0 a t place s.output
-        (more_ok (links_of value) span (operand_value env (first_of value)) s rest rest_spans t (place + 1) knows.1 (behind_it (code object) place it (more_code scope span (links_of value) rest) is) spans h))
+        (more_ok (links_of value) span (operand_value env (first_of value)) s rest rest_spans t (place + 1) knows.1
+        (after_it (code object) place it (more_code scope span (links_of value) rest) is) spans h))
 
   -- from where a statement is done, the run leads on
   abbrev Nexts : ℕ → Scope → List Instr → Env → M.State → Type 0
   Nexts total scope rest env s =
-      names env ≡ scope → (k : ℕ) → length scope + k ≡ total → (a t : Cell) (place : ℕ) → drop place (code object) ≡ rest → Ends (here (a ∷ t ∷ cells env k) place s.output)
+      names env ≡ scope → (k : ℕ) → length scope + k ≡ total → (a t : Cell) (place : ℕ) → drop place (code object) ≡ rest
+      → Ends (here (a ∷ t ∷ cells env k) place s.output)
 
   -- where nothing is done
   nothing_ok : (total : ℕ) (scope : Scope) (env : Env) (k : ℕ) (same : names env ≡ scope) (s : M.State) (rest : List Instr) (a t : Cell) (place : ℕ) →
-      length scope + k ≡ total → drop place (code object) ≡ rest → Flows (Nexts total scope rest) (Next env s) → Ends (here (a ∷ t ∷ cells env k) place s.output)
+      length scope + k ≡ total → drop place (code object) ≡ rest → Flows (Nexts total scope rest) (Next env s)
+      → Ends (here (a ∷ t ∷ cells env k) place s.output)
   nothing_ok total scope env k same s rest a t place room is h = h same k room a t place is
 
-  binding_ok : (total : ℕ) (name : List ℕ) (value : T.Expr) (scope : Scope) (env : Env) (k : ℕ) (same : names env ≡ scope) (span : ℕ) (s : M.State) (rest : List Instr) (rest_spans : List Span) (a t : Cell) (place : ℕ) →
+  binding_ok : (total : ℕ) (name : List ℕ) (value : T.Expr) (scope : Scope) (env : Env) (k : ℕ) (same : names env ≡ scope) (span : ℕ) (s : M.State)
+      (rest : List Instr) (rest_spans : List Span) (a t : Cell) (place : ℕ) →
       length scope + k ≡ total → length (scope ++ name ∷ []) ≤ total → KnowsSum scope value →
       drop place (code object) ≡ sum_code scope span value (store (length scope) ∷ rest) → drop span object.spans ≡ more_spans (links_of value) rest_spans →
-      Flows (Nexts total (scope ++ name ∷ []) rest) (then_do (eval value env s) (λ v env s. Next (declare env name v) s)) → Ends (here (a ∷ t ∷ cells env k) place s.output)
-  binding_ok total name value scope env zero same span s rest rest_spans a t place room most named is spans h = absurd (let e = length-append scope (name ∷ []) in omega arith)
+      Flows (Nexts total (scope ++ name ∷ []) rest) (then_do (eval value env s) (λ v env s. Next (declare env name v) s))
+      → Ends (here (a ∷ t ∷ cells env k) place s.output)
+  binding_ok total name value scope env zero same span s rest rest_spans a t place room most named is spans h =
+      absurd (let e = length-append scope (name ∷ []) in omega arith)
   binding_ok total name value scope env (suc k) same span s rest rest_spans a t place room most named is spans h =
       let N : Env → M.State → Type 0 = Nexts total (scope ++ name ∷ []) rest in
       let it : Instr = store (length scope) in
@@ -231,15 +280,18 @@ module _ (object : Object) (input : List ℕ) (left : ℕ) (r : Run) where
       (more (λ n env1 s1. N (declare env1 name (Int n)) s1) (Lands scope env (suc k) same (it ∷ rest)) (eval value env s)
       (λ n env1 s1 h1 same1 t1 place1 is1.
       runs (Word n ∷ t1 ∷ cells env (suc k)) place1 s1.output it (found (code object) place1 it rest is1)
-      (stores n t1 (cells env (suc k)) place1 (length scope) s1.output (let e = length_cells env (suc k) in let f = length_scope scope env k same in omega arith)
+      (stores n t1 (cells env (suc k)) place1 (length scope) s1.output (let e = length_cells env (suc k) in let f = length_scope scope env k same in
+      omega arith)
       (subst (λ xs. Ends (here (Unset ∷ t1 ∷ xs) (place1 + 1) s1.output)) (sym (added scope env k same name (Int n)))
       (subst (λ env1. N (declare env1 name (Int n)) s1) same1 h1 (names_declare env name (Int n) ∙ ap (λ scope. scope ++ name ∷ []) same) k
-      (let e = length-append scope (name ∷ []) in omega arith) Unset t1 (place1 + 1) (behind_it (code object) place1 it rest is1)))))
+      (let e = length-append scope (name ∷ []) in omega arith) Unset t1 (place1 + 1) (after_it (code object) place1 it rest is1)))))
       (then_follows N (eval value env s) (λ v env s. Next (declare env name v) s) h))
 
-  assign_ok : (total : ℕ) (name : List ℕ) (value : T.Expr) (scope : Scope) (env : Env) (k : ℕ) (same : names env ≡ scope) (span : ℕ) (s : M.State) (rest : List Instr) (rest_spans : List Span) (a t : Cell) (place : ℕ) →
+  assign_ok : (total : ℕ) (name : List ℕ) (value : T.Expr) (scope : Scope) (env : Env) (k : ℕ) (same : names env ≡ scope) (span : ℕ) (s : M.State)
+      (rest : List Instr) (rest_spans : List Span) (a t : Cell) (place : ℕ) →
       length scope + k ≡ total → Contains scope name → KnowsSum scope value →
-      drop place (code object) ≡ sum_code scope span value (store (place_of scope name) ∷ rest) → drop span object.spans ≡ more_spans (links_of value) rest_spans →
+      drop place (code object) ≡ sum_code scope span value (store (place_of scope name) ∷ rest)
+      → drop span object.spans ≡ more_spans (links_of value) rest_spans →
       Flows (Nexts total scope rest) (then_do (eval value env s) (λ v env s. Next (put env name v) s)) → Ends (here (a ∷ t ∷ cells env k) place s.output)
   assign_ok total name value scope env k same span s rest rest_spans a t place room there named is spans h =
       let N : Env → M.State → Type 0 = Nexts total scope rest in
@@ -248,12 +300,15 @@ module _ (object : Object) (input : List ℕ) (left : ℕ) (r : Run) where
       (more (λ n env1 s1. N (put env1 name (Int n)) s1) (Lands scope env k same (it ∷ rest)) (eval value env s)
       (λ n env1 s1 h1 same1 t1 place1 is1.
       runs (Word n ∷ t1 ∷ cells env k) place1 s1.output it (found (code object) place1 it rest is1)
-      (stores n t1 (cells env k) place1 (place_of scope name) s1.output (slice_get_within (cells env k) (place_of scope name) (Word (number_in (look env name))) (known scope env k same name there))
+      (stores n t1 (cells env k) place1 (place_of scope name) s1.output
+      (slice_get_within (cells env k) (place_of scope name) (Word (number_in (look env name))) (known scope env k same name there))
       (subst (λ xs. Ends (here (Unset ∷ t1 ∷ xs) (place1 + 1) s1.output)) (sym (assigned scope env k same name (Int n) there))
-      (subst (λ env1. N (put env1 name (Int n)) s1) same1 h1 (names_put env name (Int n) ∙ same) k room Unset t1 (place1 + 1) (behind_it (code object) place1 it rest is1)))))
+      (subst (λ env1. N (put env1 name (Int n)) s1) same1 h1 (names_put env name (Int n) ∙ same) k room Unset t1 (place1 + 1)
+      (after_it (code object) place1 it rest is1)))))
       (then_follows N (eval value env s) (λ v env s. Next (put env name v) s) h))
 
-  print_ok : (total : ℕ) (value : Option T.Expr) (scope : Scope) (env : Env) (k : ℕ) (same : names env ≡ scope) (span : ℕ) (s : M.State) (rest : List Instr) (rest_spans : List Span) (a t : Cell) (place : ℕ) →
+  print_ok : (total : ℕ) (value : Option T.Expr) (scope : Scope) (env : Env) (k : ℕ) (same : names env ≡ scope) (span : ℕ) (s : M.State)
+      (rest : List Instr) (rest_spans : List Span) (a t : Cell) (place : ℕ) →
       length scope + k ≡ total → KnowsPrinted scope value →
       drop place (code object) ≡ print_code scope span value rest → drop span object.spans ≡ more_spans (printed_links value) rest_spans →
       Flows (Nexts total scope rest) (print_value value env s) → Ends (here (a ∷ t ∷ cells env k) place s.output)
@@ -265,33 +320,39 @@ module _ (object : Object) (input : List ℕ) (left : ℕ) (r : Run) where
       (more (λ n env1 s1. N env1 (write s1 (M.line_of (Int n)))) (Lands scope env k same (it ∷ rest)) (eval value env s)
       (λ n env1 s1 h1 same1 t1 place1 is1.
       runs (Word n ∷ t1 ∷ cells env k) place1 s1.output it (found (code object) place1 it rest is1)
-      (subst (λ env1. N env1 (write s1 (M.line_of (Int n)))) same1 h1 same k room (Word n) t1 (place1 + 1) (behind_it (code object) place1 it rest is1)))
+      (subst (λ env1. N env1 (write s1 (M.line_of (Int n)))) same1 h1 same k room (Word n) t1 (place1 + 1) (after_it (code object) place1 it rest is1)))
       (then_follows N (eval value env s) (λ v env s. Next env (write s (M.line_of v))) h))
 
-  stmt_ok : (total : ℕ) (m : T.Stmt) (scope : Scope) (env : Env) (k : ℕ) (same : names env ≡ scope) (span : ℕ) (s : M.State) (rest : List Instr) (rest_spans : List Span) (a t : Cell) (place : ℕ) →
+  stmt_ok : (total : ℕ) (m : T.Stmt) (scope : Scope) (env : Env) (k : ℕ) (same : names env ≡ scope) (span : ℕ) (s : M.State) (rest : List Instr)
+      (rest_spans : List Span) (a t : Cell) (place : ℕ) →
       length scope + k ≡ total → length (declares scope m) ≤ total → IsNamedStmt scope m →
       drop place (code object) ≡ stmt_code scope span m rest → drop span object.spans ≡ stmt_spans m rest_spans →
       Flows (Nexts total (declares scope m) rest) (exec m env s) → Ends (here (a ∷ t ∷ cells env k) place s.output)
   stmt_ok total (T.Binding introducer name written value at) scope env k same span s rest rest_spans a t place room most named is spans h =
-      binding_ok total name.text value scope env k same span s rest rest_spans a t place room (subst (λ (behind : Scope). length behind ≤ total) named.0 most) named.1 is spans
-      (subst (λ (behind : Scope). Flows (Nexts total behind rest) (exec (T.Binding introducer name written value at) env s)) named.0 h)
+      binding_ok total name.text value scope env k same span s rest rest_spans a t place room
+      (subst (λ (later : Scope). length later ≤ total) named.0 most) named.1 is spans
+      (subst (λ (later : Scope). Flows (Nexts total later rest) (exec (T.Binding introducer name written value at) env s)) named.0 h)
   stmt_ok total (T.Assign target value at) scope env k same span s rest rest_spans a t place room most named is spans h =
       assign_ok total (target_of target) value scope env k same span s rest rest_spans a t place room named.0 named.1 is spans h
-  stmt_ok total (T.Evaluate e at) scope env k same span s rest rest_spans a t place room most named is spans h = print_ok total (printed e) scope env k same span s rest rest_spans a t place room named is spans h
+  stmt_ok total (T.Evaluate e at) scope env k same span s rest rest_spans a t place room most named is spans h =
+      print_ok total (printed e) scope env k same span s rest rest_spans a t place room named is spans h
   stmt_ok total m scope env k same span s rest rest_spans a t place room most named is spans h = nothing_ok total scope env k same s rest a t place room is h
 
-  block_ok : (total : ℕ) (stmts : T.Stmts) (scope : Scope) (env : Env) (k : ℕ) (same : names env ≡ scope) (span : ℕ) (s : M.State) (rest : List Instr) (rest_spans : List Span) (a t : Cell) (place : ℕ) →
+  block_ok : (total : ℕ) (stmts : T.Stmts) (scope : Scope) (env : Env) (k : ℕ) (same : names env ≡ scope) (span : ℕ) (s : M.State) (rest : List Instr)
+      (rest_spans : List Span) (a t : Cell) (place : ℕ) →
       length scope + k ≡ total → length (declared scope stmts) ≤ total → IsNamed scope stmts →
       drop place (code object) ≡ block_code scope span stmts rest → drop span object.spans ≡ block_spans stmts rest_spans →
-      Flows (λ env s. (frame : List Cell) (place : ℕ) → drop place (code object) ≡ rest → Ends (here frame place s.output)) (block stmts env s) → Ends (here (a ∷ t ∷ cells env k) place s.output)
+      Flows (λ env s. (frame : List Cell) (place : ℕ) → drop place (code object) ≡ rest → Ends (here frame place s.output)) (block stmts env s)
+      → Ends (here (a ∷ t ∷ cells env k) place s.output)
   block_ok total T.NoStmt scope env k same span s rest rest_spans a t place room most named is spans h = h (a ∷ t ∷ cells env k) place is
   block_ok total (T.ThenStmt m stmts) scope env k same span s rest rest_spans a t place room most named is spans h =
       let D : Env → M.State → Type 0 = λ env s. (frame : List Cell) (place : ℕ) → drop place (code object) ≡ rest → Ends (here frame place s.output) in
-      let rest1 : List Instr = block_code (declares scope m) (spans_behind span (links_in m)) stmts rest in
-      stmt_ok total m scope env k same span s rest1 (block_spans stmts rest_spans) a t place room (let e = declared_grows (declares scope m) stmts in omega arith) named.0 is spans
+      let rest1 : List Instr = block_code (declares scope m) (spans_after span (links_in m)) stmts rest in
+      stmt_ok total m scope env k same span s rest1 (block_spans stmts rest_spans) a t place room (let e = declared_grows (declares scope m) stmts in
+      omega arith) named.0 is spans
       (more_flow (λ env s. Flows D (block stmts env s)) (Nexts total (declares scope m) rest1) (exec m env s)
       (λ env1 s1 h1 same1 k1 room1 a1 t1 place1 is1.
-      block_ok total stmts (declares scope m) env1 k1 same1 (spans_behind span (links_in m)) s1 rest rest_spans a1 t1 place1 room1 most named.1 is1
+      block_ok total stmts (declares scope m) env1 k1 same1 (spans_after span (links_in m)) s1 rest rest_spans a1 t1 place1 room1 most named.1 is1
       (spans_left object.spans (links_in m) span (block_spans stmts rest_spans) spans) h1)
       (and_follows D (exec m env s) (block stmts) h))
 
@@ -300,21 +361,27 @@ module _ (object : Object) (input : List ℕ) (left : ℕ) (r : Run) where
   flows_of (Next env s) h = h
   flows_of (Over e s) h = h
 
-  returns : (frame : List Cell) (place : ℕ) (output : List ℕ) → drop place (code object) ≡ instr.Return 0 ∷ [] → done_run input output ≡ r → Ends (here frame place output)
-  returns frame place output is h = runs frame place output (instr.Return 0) (found (code object) place (instr.Return 0) [] is) (record { count = zero; same = ap Some h })
+  returns : (frame : List Cell) (place : ℕ) (output : List ℕ) → drop place (code object) ≡ instr.Return 0 ∷ [] → done_run input output ≡ r
+      → Ends (here frame place output)
+  returns frame place output is h = runs frame place output (instr.Return 0) (found (code object) place (instr.Return 0) [] is)
+      (record { count = zero; same = ap Some h })
 
 -- the state in which a block of `main` is run
 abbrev pub first_state : List ℕ → ℕ → M.State
 first_state input left = record { input = input; output = []; turns = left; opened = 0 }
 
 -- a run with a turn ends as the meaning of the block says
-pub main_runs : (tree : Program) → IsNamed [] (main_of tree.decls) → (input : List ℕ) (left : ℕ) → IsSeen (lowered tree) input (suc left) (run_of input (block (main_of tree.decls) [] (first_state input left)))
+pub main_runs : (tree : Program) → IsNamed [] (main_of tree.decls) → (input : List ℕ) (left : ℕ)
+    → IsSeen (lowered tree) input (suc left) (run_of input (block (main_of tree.decls) [] (first_state input left)))
 main_runs tree named input left =
     let q : Flow = block (main_of tree.decls) [] (first_state input left) in
     let r : Run = run_of input q in
     let total : ℕ = length (declared [] (main_of tree.decls)) in
     let end : List Instr = instr.Return 0 ∷ [] in
-    let D : Env → M.State → Type 0 = λ env s. (frame : List Cell) (place : ℕ) → drop place (code (lowered tree)) ≡ end → Ends (lowered tree) input left r (here (lowered tree) input left r frame place s.output) in
-    let e = block_ok (lowered tree) input left r total (main_of tree.decls) [] [] total refl 0 (first_state input left) end [] Unset Unset 0 (omega arith) (omega arith) named refl refl
-    (more_flow (lowered tree) input left r (λ env s. done_run input s.output ≡ r) D q (λ env s h frame place is. returns (lowered tree) input left r frame place s.output is h) (flows_of (lowered tree) input left r q refl)) in
+    let D : Env → M.State → Type 0 = λ env s. (frame : List Cell) (place : ℕ) → drop place (code (lowered tree)) ≡ end
+    → Ends (lowered tree) input left r (here (lowered tree) input left r frame place s.output) in
+    let e = block_ok (lowered tree) input left r total (main_of tree.decls) [] [] total refl 0 (first_state input left) end [] Unset Unset 0
+    (omega arith) (omega arith) named refl refl
+    (more_flow (lowered tree) input left r (λ env s. done_run input s.output ≡ r) D q (λ env s h frame place is.
+    returns (lowered tree) input left r frame place s.output is h) (flows_of (lowered tree) input left r q refl)) in
     (e.count, e.same)

@@ -12,10 +12,11 @@ mod Known
 mod Grammar
 mod Leads
 mod Named
-mod Puts
+pub mod Promised
+mod Extends
 mod Reports
 mod Statuses
-pub mod Telling
+pub mod Writing
 pub mod ThisRun
 pub mod Ways
 mod Worded

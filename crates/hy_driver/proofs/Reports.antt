@@ -1,4 +1,4 @@
--- The lines of the report that are due.
+-- The lines of the report.
 use Rattle.std.proofs.Common.{◌≡◌, ◌≢◌, ◌&&◌, ℕ, Bool, true, false, List, [], Option, Some, None, refl, sym, ◌∙◌, ap, subst}
 use Rattle.std.specs.Prelude.{if◌then◌else◌}
 use Rattle.hy_base.specs.declared.run.Counts.{Counts}
@@ -11,12 +11,12 @@ use Rattle.hy_words.specs.Asked.{Asked, ToRun, ToExec}
 use Rattle.hy_words.specs.Commands.{command_of}
 use Rattle.hy_driver.specs.Call.{Filed, Streams}
 use Rattle.hy_driver.specs.Course as w
-use Rattle.hy_driver.specs.Course.{Answer, Executes, ExecutesFile, Follows, Goes}
+use Rattle.hy_driver.specs.Course.{Answer, RunMayAnswer, FileMayAnswer, SourceMayAnswer, CallMayAnswer}
 use Rattle.hy_driver.specs.Executed.{status_of_stop, lines_of}
-use Rattle.hy_driver.specs.Headline.{asks_report, is_reported, due_lines}
+use Rattle.hy_driver.specs.Headline.{asks_report, is_reported, lines_due}
 use Rattle.hy_driver.specs.Texts.{report_lines}
 
--- none is due where none is asked for
+-- there are none where none are asked for
 not_asked : (b : Bool) (lines : List ℕ) → [] ≡ (if b && false then lines else [])
 not_asked true lines = refl
 not_asked false lines = refl
@@ -26,46 +26,50 @@ both true true lines some = refl
 both true false lines some = absurd (some refl)
 both false other lines some = absurd (some refl)
 
--- lines that are due are asked for
-pub asked_for : (words : List (List ℕ)) (status : ℕ) (counts : Counts) (lines : List ℕ) → lines ≡ due_lines (command_of words) status counts → lines ≢ [] → asks_report (command_of words) ≡ true
+-- where there are lines, they were asked for
+pub asked_for : (words : List (List ℕ)) (status : ℕ) (counts : Counts) (lines : List ℕ) → lines ≡ lines_due (command_of words) status counts
+    → lines ≢ [] → asks_report (command_of words) ≡ true
 asked_for words status counts lines is some = both (is_reported status) (asks_report (command_of words)) (report_lines counts) (λ none. some (is ∙ none))
 
-stop_lines : (report : Bool) (stop : Stop) (counts : Counts) → lines_of report counts ≡ (if is_reported (status_of_stop stop) && report then report_lines counts else [])
+stop_lines : (report : Bool) (stop : Stop) (counts : Counts)
+    → lines_of report counts ≡ (if is_reported (status_of_stop stop) && report then report_lines counts else [])
 stop_lines report (Ended end.Done) counts = refl
 stop_lines report (Ended (end.Trap kind span)) counts = refl
 stop_lines report (Ended end.Spent) counts = refl
 stop_lines report (Ended end.Asks) counts = refl
 stop_lines report (Stuck why at) counts = refl
 
-cause_lines : (asked : Option Asked) (by : RunCause) (counts : Counts) → [] ≡ due_lines asked (w.cause_status by) counts
+cause_lines : (asked : Option Asked) (by : RunCause) (counts : Counts) → [] ≡ lines_due asked (w.cause_status by) counts
 cause_lines asked cause.Input counts = refl
 cause_lines asked cause.Output counts = refl
 cause_lines asked cause.NoMemory counts = refl
 
 module _ (before after : Streams) where
-  run_lines : (file bytes : List ℕ) (it : Answer) → Follows file bytes before after it → it.lines ≡ []
+  run_lines : (file bytes : List ℕ) (it : Answer) → SourceMayAnswer file bytes before after it → it.lines ≡ []
   run_lines file bytes it (w.refused first idle) = refl
-  run_lines file bytes it (w.memory_wanted idle) = refl
+  run_lines file bytes it (w.not_compiled idle) = refl
   run_lines file bytes it (w.executed {object = object} made executes) = executed_lines file bytes object it executes
     where
-      executed_lines : (file bytes : List ℕ) (object : _) (it : Answer) → Executes file bytes object before after it → it.lines ≡ []
+      executed_lines : (file bytes : List ℕ) (object : _) (it : Answer) → RunMayAnswer file bytes object before after it → it.lines ≡ []
       executed_lines file bytes object it (w.ended run) = refl
-      executed_lines file bytes object it (w.message_wanted run) = refl
+      executed_lines file bytes object it (w.ended_without_message run) = refl
       executed_lines file bytes object it (w.cut_off cut) = refl
 
-  file_lines : (file bytes : List ℕ) (options : Options) (it : Answer) → ExecutesFile file bytes options before after it → it.lines ≡ due_lines (Some (ToExec file options)) it.status it.counts
+  file_lines : (file bytes : List ℕ) (options : Options) (it : Answer) → FileMayAnswer file bytes options before after it
+      → it.lines ≡ lines_due (Some (ToExec file options)) it.status it.counts
   file_lines file bytes options it (w.bad bad idle) = refl
   file_lines file bytes options it (w.not_decoded idle) = refl
   file_lines file bytes options it (w.stopped {stop = stop} {counts = counts} is run) = stop_lines options.report stop counts
-  file_lines file bytes options it (w.untold is run) = refl
+  file_lines file bytes options it (w.stopped_without_message is run) = refl
   file_lines file bytes options it (w.cut_short {fault = fault} is cut) = cause_lines (Some (ToExec file options)) fault.cause fault.counts
 
-module _ (words : List (List ℕ)) (may_fail : List ℕ → Type 0) (files_before files_after : Filed) (before after : Streams) where
-  pub lines_are : (it : Answer) → Goes words may_fail files_before files_after before after it → it.lines ≡ due_lines (command_of words) it.status it.counts
+module _ (words : List (List ℕ)) (files_before files_after : Filed) (before after : Streams) where
+  pub lines_are : (it : Answer) → CallMayAnswer words files_before files_after before after it → it.lines ≡ lines_due (command_of words) it.status it.counts
   lines_are it (w.no_command none same idle) = refl
   lines_are it (w.files_failed command may rose idle) = refl
   lines_are it (w.not_loaded command same idle) = refl
   lines_are it (w.loaded {file = file} {bytes = bytes} command loads same follows) =
-      subst (λ o. it.lines ≡ due_lines o it.status it.counts) (sym command) (run_lines before after file bytes it follows ∙ not_asked (is_reported it.status) (report_lines it.counts))
+      subst (λ o. it.lines ≡ lines_due o it.status it.counts) (sym command) (run_lines before after file bytes it follows
+      ∙ not_asked (is_reported it.status) (report_lines it.counts))
   lines_are it (w.loaded_object {file = file} {bytes = bytes} {options = options} command loads same executes) =
-      subst (λ o. it.lines ≡ due_lines o it.status it.counts) (sym command) (file_lines before after file bytes options it executes)
+      subst (λ o. it.lines ≡ lines_due o it.status it.counts) (sym command) (file_lines before after file bytes options it executes)

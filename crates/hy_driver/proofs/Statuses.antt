@@ -10,7 +10,7 @@ use Rattle.hy_words.specs.Asked.{ToExec}
 use Rattle.hy_words.specs.Commands.{command_of}
 use Rattle.hy_driver.specs.Call.{Filed, Streams}
 use Rattle.hy_driver.specs.Course as w
-use Rattle.hy_driver.specs.Course.{Answer, Executes, Follows, Goes}
+use Rattle.hy_driver.specs.Course.{Answer, RunMayAnswer, SourceMayAnswer, CallMayAnswer}
 use Rattle.hy_driver.specs.Headline.{status_of}
 
 low_end : (e : End) → status_of e ≤ 8
@@ -25,21 +25,23 @@ low_cause cause.Output = omega arith
 low_cause cause.NoMemory = omega arith
 
 module _ (before after : Streams) where
-  low_executed : (file bytes : List ℕ) (object : Object) (it : Answer) → Executes file bytes object before after it → it.status ≤ 8
+  low_executed : (file bytes : List ℕ) (object : Object) (it : Answer) → RunMayAnswer file bytes object before after it → it.status ≤ 8
   low_executed file bytes object it (w.ended {ending = ending} run) = low_end ending.end
-  low_executed file bytes object it (w.message_wanted run) = omega arith
+  low_executed file bytes object it (w.ended_without_message run) = omega arith
   low_executed file bytes object it (w.cut_off {fault = fault} cut) = low_cause fault.cause
 
-  low_followed : (file bytes : List ℕ) (it : Answer) → Follows file bytes before after it → it.status ≤ 8
+  low_followed : (file bytes : List ℕ) (it : Answer) → SourceMayAnswer file bytes before after it → it.status ≤ 8
   low_followed file bytes it (w.refused first idle) = omega arith
-  low_followed file bytes it (w.memory_wanted idle) = omega arith
+  low_followed file bytes it (w.not_compiled idle) = omega arith
   low_followed file bytes it (w.executed {object = object} made executes) = low_executed file bytes object it executes
 
-module _ (words : List (List ℕ)) (may_fail : List ℕ → Type 0) (files_before files_after : Filed) (before after : Streams) where
+module _ (words : List (List ℕ)) (files_before files_after : Filed) (before after : Streams) where
   -- a way with such a status executes a file
-  pub is_execution : (it : Answer) → 9 ≤ it.status → Goes words may_fail files_before files_after before after it → (file : List ℕ) × (options : Options) × (command_of words ≡ Some (ToExec file options))
+  pub is_execution : (it : Answer) → 9 ≤ it.status → CallMayAnswer words files_before files_after before after it → (file : List ℕ)
+      × (options : Options) × (command_of words ≡ Some (ToExec file options))
   is_execution it high (w.no_command none same idle) = absurd (omega arith)
   is_execution it high (w.files_failed command may rose idle) = absurd (omega arith)
   is_execution it high (w.not_loaded command same idle) = absurd (omega arith)
-  is_execution it high (w.loaded {file = file} {bytes = bytes} command loads same follows) = let low = low_followed before after file bytes it follows in absurd (omega (arith, low, high))
+  is_execution it high (w.loaded {file = file} {bytes = bytes} command loads same follows) = let low =
+      low_followed before after file bytes it follows in absurd (omega (arith, low, high))
   is_execution it high (w.loaded_object {file = file} {options = options} command loads same executes) = (file, options, command)

@@ -17,15 +17,15 @@ use Rattle.hy_object.specs.Bytes.{bytes_of}
 use Rattle.hy_object.specs.Runs.{Runs, OneRun, WritesBeginnings}
 use Rattle.hy_object.specs.States.{Ended}
 use Rattle.hy_runs.specs.Runs.{Told, Appends, IsTaken, IsCutOffAt, CutOffBy, CountsCause}
-use Rattle.hy_driver.specs.declared.due.Report as top
+use Rattle.hy_driver.specs.declared.reply.Report as top
 use Rattle.hy_driver.specs.Call.{Call, Filed, Streams, Messages, call_of, IsInput, IsQuiet}
 use Rattle.hy_driver.specs.Compiled.{IsCompiled, Agrees}
 use Rattle.hy_driver.specs.Course as w
-use Rattle.hy_driver.specs.Course.{Answer, IsIdle, IsMade, IsRun, IsCut, Executes, Follows, Goes}
-use Rattle.hy_driver.specs.Due.{Says, IsSaid}
+use Rattle.hy_driver.specs.Course.{Answer, IsIdle, IsObjectOf, IsRun, IsCut, RunMayAnswer, SourceMayAnswer, CallMayAnswer}
+use Rattle.hy_driver.specs.Reply.{IsReported, IsWritten}
 use Rattle.hy_driver.specs.Executed.{told_of, faults_of}
 use Rattle.hy_driver.specs.Headline.{turns, status_of, end_message, IsRunOf, RunsAsItMeans, WritesABeginning}
-use Rattle.hy_driver.proofs.Clauses.{OneTree, From, failed, wanting, went, from_source, said}
+use Rattle.hy_driver.proofs.Clauses.{OneTree, SourceCourse, failed, no_memory, went_on, from_source, written_if_no_fault}
 
 pub ended_is : {e f : End} → Ended e ≡ Ended f → e ≡ f
 ended_is e = cc
@@ -34,25 +34,28 @@ ended_is e = cc
 pub input_is : (input left : List ℕ) (count : ℕ) (old new : Tape) (before after : Option Tape) → before ≡ Some old → after ≡ Some new → left ≡ old.left
     → StillTells before after (IsTaken input count) → input ≡ left
 input_is input left count old new before after told still is taken =
-    let t : StillTells (Some old) (Some new) (IsTaken input count) = subst (λ a. StillTells (Some old) a (IsTaken input count)) still (subst (λ b. StillTells b after (IsTaken input count)) told taken) in
+    let t : StillTells (Some old) (Some new) (IsTaken input count) =
+    subst (λ a. StillTells (Some old) a (IsTaken input count)) still (subst (λ b. StillTells b after (IsTaken input count)) told taken) in
     t.whole ∙ sym is
 
--- where nothing went out, that is a beginning of anything
+-- where nothing was written, that is a beginning of anything
 nothing_out : (before after : Option (List ℕ)) (all : List ℕ) → after ≡ before → (n : ℕ) × StillTells before after (Appends (take n all))
 nothing_out None after all same = (zero, subst (λ a. StillTells None a (Appends (take zero all))) (sym same) tt)
 nothing_out (Some told) after all same = (zero, subst (λ a. StillTells (Some told) a (Appends (take zero all))) (sym same) (sym (append-nil told)))
 
-module _ (words : List (List ℕ)) (may_fail : List ℕ → Type 0) (files_before files_after : Filed) (before after : Streams) (err_before err_after : Messages) (report : top.Report)
+module _ (words : List (List ℕ)) (files_before files_after : Filed) (before after : Streams) (err_before err_after : Messages) (report : top.Report)
     (one_tree : OneTree) (one_run : OneRun) (writes_beginnings : WritesBeginnings) where
   abbrev c : Call
   c = call_of words files_before files_after before after err_before err_after report
 
   -- what a run of the object is, by the meaning
-  is_run_of : (file bytes left : List ℕ) (tree : Program) (object : Object) (ending : Ending) → IsCompiled tree object → IsInput c left → IsRun object before after ending
-      → IsSaid (w.ended_answer file bytes (bytes_of object) ending) err_before err_after report → IsRunOf c file bytes left tree
-  is_run_of file bytes left tree object ending made input run it_said =
+  is_run_of : (file bytes left : List ℕ) (tree : Program) (object : Object) (ending : Ending) → IsCompiled tree object → IsInput c left
+      → IsRun object before after ending
+      → IsWritten (w.ended_answer file bytes (bytes_of object) ending) err_before err_after report → IsRunOf c file bytes left tree
+  is_run_of file bytes left tree object ending made input run written =
       let ran = run.stopped.ran in
-      let same_input : ran.input ≡ left = input_is ran.input left ran.run.taken input.old input.new before.input after.input input.told input.still input.left_of_it ran.taken in
+      let same_input : ran.input ≡ left = input_is ran.input left ran.run.taken input.old input.new before.input after.input input.told input.still
+      input.left_of_it ran.taken in
       let runs : Runs object left false turns ran.run = subst (λ i. Runs object i false turns ran.run) same_input ran.runs in
       let asked = made.same left false turns (lit≤ tt) in
       let same_run : ran.run ≡ asked.0 = one_run object left false turns ran.run asked.0 runs asked.1 in
@@ -60,14 +63,15 @@ module _ (words : List (List ℕ)) (may_fail : List ℕ → Type 0) (files_befor
       let end_is : ending.end ≡ (mean tree left false turns).end = ended_is (sym ran.stopped ∙ agrees.stop) in
       record {
         object = object;
-        bytes_are = it_said.object;
+        bytes_are = written.object;
         run = ran.run;
         runs = runs;
-        counts = it_said.counts ∙ sym ran.same_counts;
-        status = it_said.status ∙ ap status_of end_is;
+        counts = written.counts ∙ sym ran.same_counts;
+        status = written.status ∙ ap status_of end_is;
         output = subst (λ o. StillTells before.out after.out (Appends o)) agrees.output ran.output;
-        taken = subst (λ t. StillTells before.input after.input (IsTaken left t)) agrees.taken (subst (λ i. StillTells before.input after.input (IsTaken i ran.run.taken)) same_input ran.taken);
-        message = subst (λ e. StillTells err_before.told err_after.told (Appends (end_message file bytes e))) end_is it_said.told;
+        taken = subst (λ t. StillTells before.input after.input (IsTaken left t)) agrees.taken
+            (subst (λ i. StillTells before.input after.input (IsTaken i ran.run.taken)) same_input ran.taken);
+        message = subst (λ e. StillTells err_before.told err_after.told (Appends (end_message file bytes e))) end_is written.told;
       }
 
   not_cut : (old : RunCause) (fault : RunFault) → fault.cause ≡ old → IsQuiet c → CountsCause old (faults_of before) (faults_of after)
@@ -76,28 +80,36 @@ module _ (words : List (List ℕ)) (may_fail : List ℕ → Type 0) (files_befor
   not_cut cause.Output fault is quiet rose status = let same = quiet.out in let r = rose.1 in omega (arith, r, same)
   not_cut cause.NoMemory fault is quiet rose status = quiet.memory status
 
-  executes_as : (file bytes left : List ℕ) (tree : Program) (object : Object) (it : Answer) → IsCompiled tree object → IsInput c left → IsQuiet c → IsSaid it err_before err_after report
-      → Executes file bytes object before after it → IsRunOf c file bytes left tree
-  executes_as file bytes left tree object it made input quiet it_said (w.ended {ending = ending} run) = is_run_of file bytes left tree object ending made input run it_said
-  executes_as file bytes left tree object it made input quiet it_said (w.message_wanted run) = absurd (quiet.memory it_said.status)
-  executes_as file bytes left tree object it made input quiet it_said (w.cut_off {fault = fault} cut) = absurd (not_cut fault.cause fault refl quiet cut.cut_short.faults it_said.status)
+  executes_as : (file bytes left : List ℕ) (tree : Program) (object : Object) (it : Answer) → IsCompiled tree object → IsInput c left → IsQuiet c
+      → IsWritten it err_before err_after report
+      → RunMayAnswer file bytes object before after it → IsRunOf c file bytes left tree
+  executes_as file bytes left tree object it made input quiet written (w.ended {ending = ending} run) =
+      is_run_of file bytes left tree object ending made input run written
+  executes_as file bytes left tree object it made input quiet written (w.ended_without_message run) = absurd (quiet.memory written.status)
+  executes_as file bytes left tree object it made input quiet written (w.cut_off {fault = fault} cut) =
+      absurd (not_cut fault.cause fault refl quiet cut.cut_short.faults written.status)
 
-  follows_as : (file bytes left : List ℕ) (tree : Program) (it : Answer) → IsTree bytes tree → IsInput c left → IsQuiet c → IsSaid it err_before err_after report
-      → Follows file bytes before after it → IsRunOf c file bytes left tree
-  follows_as file bytes left tree it is input quiet it_said (w.refused {f = f} first idle) = absurd (is.sound f first.0)
-  follows_as file bytes left tree it is input quiet it_said (w.memory_wanted idle) = absurd (quiet.memory it_said.status)
-  follows_as file bytes left tree it is input quiet it_said (w.executed {tree = other} {object = object} made executes) =
-      executes_as file bytes left tree object it (subst (λ t. IsCompiled t object) (one_tree bytes other tree made.tree_of_it is) made.compiled) input quiet it_said executes
+  follows_as : (file bytes left : List ℕ) (tree : Program) (it : Answer) → IsTree bytes tree → IsInput c left → IsQuiet c
+      → IsWritten it err_before err_after report
+      → SourceMayAnswer file bytes before after it → IsRunOf c file bytes left tree
+  follows_as file bytes left tree it is input quiet written (w.refused {f = f} first idle) = absurd (is.sound f first.0)
+  follows_as file bytes left tree it is input quiet written (w.not_compiled idle) = absurd (quiet.memory written.status)
+  follows_as file bytes left tree it is input quiet written (w.executed {tree = other} {object = object} made executes) =
+      executes_as file bytes left tree object it (subst (λ t. IsCompiled t object) (one_tree bytes other tree made.tree_of_it is) made.compiled) input
+      quiet written executes
 
-  from_as : (file bytes left : List ℕ) (tree : Program) (it : Answer) → IsTree bytes tree → IsInput c left → IsQuiet c → IsSaid it err_before err_after report
-      → From file bytes files_before files_after before after it → IsRunOf c file bytes left tree
-  from_as file bytes left tree it is input quiet it_said (failed rose idle) = let same = quiet.files in absurd (omega (arith, rose, same))
-  from_as file bytes left tree it is input quiet it_said (wanting same idle) = absurd (quiet.memory it_said.status)
-  from_as file bytes left tree it is input quiet it_said (went same follows) = follows_as file bytes left tree it is input quiet it_said follows
+  from_as : (file bytes left : List ℕ) (tree : Program) (it : Answer) → IsTree bytes tree → IsInput c left → IsQuiet c
+      → IsWritten it err_before err_after report
+      → SourceCourse file bytes files_before files_after before after it → IsRunOf c file bytes left tree
+  from_as file bytes left tree it is input quiet written (failed rose idle) = let same = quiet.files in absurd (omega (arith, rose, same))
+  from_as file bytes left tree it is input quiet written (no_memory same idle) = absurd (quiet.memory written.status)
+  from_as file bytes left tree it is input quiet written (went_on same follows) = follows_as file bytes left tree it is input quiet written follows
 
-  pub runs_as_it_means : (it : Answer) → Goes words may_fail files_before files_after before after it → Says it err_before err_after report → RunsAsItMeans c
+  pub runs_as_it_means : (it : Answer) → CallMayAnswer words files_before files_after before after it → IsReported it err_before err_after report
+      → RunsAsItMeans c
   runs_as_it_means it way says file bytes left tree source input quiet is =
-      from_as file bytes left tree it is input quiet (said says quiet.err) (from_source words may_fail files_before files_after before after err_before err_after report file bytes it source way)
+      from_as file bytes left tree it is input quiet (written_if_no_fault says quiet.err)
+      (from_source words files_before files_after before after err_before err_after report file bytes it source way)
 
   -- AFTER A FAULT
 
@@ -105,7 +117,8 @@ module _ (words : List (List ℕ)) (may_fail : List ℕ → Type 0) (files_befor
       → (n : ℕ) × StillTells before.out after.out (Appends (take n (mean tree left false turns).output))
   all_out left tree object ending made input run =
       let ran = run.stopped.ran in
-      let same_input : ran.input ≡ left = input_is ran.input left ran.run.taken input.old input.new before.input after.input input.told input.still input.left_of_it ran.taken in
+      let same_input : ran.input ≡ left = input_is ran.input left ran.run.taken input.old input.new before.input after.input input.told input.still
+      input.left_of_it ran.taken in
       let runs : Runs object left false turns ran.run = subst (λ i. Runs object i false turns ran.run) same_input ran.runs in
       let asked = made.same left false turns (lit≤ tt) in
       let same_run : ran.run ≡ asked.0 = one_run object left false turns ran.run asked.0 runs asked.1 in
@@ -114,9 +127,11 @@ module _ (words : List (List ℕ)) (may_fail : List ℕ → Type 0) (files_befor
       (length all, subst (λ o. StillTells before.out after.out (Appends o)) (output ∙ sym (take-length all)) ran.output)
 
   cut_out : (left : List ℕ) (tree : Program) (object : Object) (fault : RunFault) → IsCompiled tree object → IsInput c left
-      → IsCutOffAt object turns (told_of before) (told_of after) fault → (n : ℕ) × StillTells before.out after.out (Appends (take n (mean tree left false turns).output))
+      → IsCutOffAt object turns (told_of before) (told_of after) fault → (n : ℕ)
+      × StillTells before.out after.out (Appends (take n (mean tree left false turns).output))
   cut_out left tree object fault made input cut =
-      let same_input : cut.input ≡ left = input_is cut.input left _ input.old input.new before.input after.input input.told input.still input.left_of_it cut.taken in
+      let same_input : cut.input ≡ left = input_is cut.input left _ input.old input.new before.input after.input input.told input.still
+      input.left_of_it cut.taken in
       let asked = made.same cut.input false turns (lit≤ tt) in
       let begins = writes_beginnings object cut.input false turns asked.0 cut.steps cut.front asked.1 in
       let output : asked.0.output ≡ (mean tree left false turns).output = asked.2.output ∙ ap (λ i. (mean tree i false turns).output) same_input in
@@ -124,31 +139,36 @@ module _ (words : List (List ℕ)) (may_fail : List ℕ → Type 0) (files_befor
 
   -- it was not cut off by the input
   cut_by : (left : List ℕ) (tree : Program) (object : Object) (fault : RunFault) → IsCompiled tree object → IsInput c left
-      → (by : RunCause) → by ≢ cause.Input → CutOffBy by object turns (told_of before) (told_of after) fault → (n : ℕ) × StillTells before.out after.out (Appends (take n (mean tree left false turns).output))
+      → (by : RunCause) → by ≢ cause.Input → CutOffBy by object turns (told_of before) (told_of after) fault → (n : ℕ)
+      × StillTells before.out after.out (Appends (take n (mean tree left false turns).output))
   cut_by left tree object fault made input cause.Input not_input cut = absurd (not_input refl)
   cut_by left tree object fault made input cause.Output not_input cut = cut_out left tree object fault made input cut
   cut_by left tree object fault made input cause.NoMemory not_input (inl at) = cut_out left tree object fault made input at
   cut_by left tree object fault made input cause.NoMemory not_input (inr off) = nothing_out before.out after.out (mean tree left false turns).output off.output
 
-  executes_out : (file bytes left : List ℕ) (tree : Program) (object : Object) (it : Answer) → IsCompiled tree object → IsInput c left → Executes file bytes object before after it
+  executes_out : (file bytes left : List ℕ) (tree : Program) (object : Object) (it : Answer) → IsCompiled tree object → IsInput c left
+      → RunMayAnswer file bytes object before after it
       → (n : ℕ) × StillTells before.out after.out (Appends (take n (mean tree left false turns).output))
   executes_out file bytes left tree object it made input (w.ended {ending = ending} run) = all_out left tree object ending made input run
-  executes_out file bytes left tree object it made input (w.message_wanted {ending = ending} run) = all_out left tree object ending made input run
-  executes_out file bytes left tree object it made input (w.cut_off {fault = fault} cut) = cut_by left tree object fault made input fault.cause cut.no_input cut.cut_short.cut
+  executes_out file bytes left tree object it made input (w.ended_without_message {ending = ending} run) = all_out left tree object ending made input run
+  executes_out file bytes left tree object it made input (w.cut_off {fault = fault} cut) =
+      cut_by left tree object fault made input fault.cause cut.no_input cut.cut_short.cut
 
-  follows_out : (file bytes left : List ℕ) (tree : Program) (it : Answer) → IsTree bytes tree → IsInput c left → Follows file bytes before after it
+  follows_out : (file bytes left : List ℕ) (tree : Program) (it : Answer) → IsTree bytes tree → IsInput c left → SourceMayAnswer file bytes before after it
       → (n : ℕ) × StillTells before.out after.out (Appends (take n (mean tree left false turns).output))
   follows_out file bytes left tree it is input (w.refused first idle) = nothing_out before.out after.out (mean tree left false turns).output idle.out
-  follows_out file bytes left tree it is input (w.memory_wanted idle) = nothing_out before.out after.out (mean tree left false turns).output idle.out
+  follows_out file bytes left tree it is input (w.not_compiled idle) = nothing_out before.out after.out (mean tree left false turns).output idle.out
   follows_out file bytes left tree it is input (w.executed {tree = other} {object = object} made executes) =
-      executes_out file bytes left tree object it (subst (λ t. IsCompiled t object) (one_tree bytes other tree made.tree_of_it is) made.compiled) input executes
+      executes_out file bytes left tree object it (subst (λ t. IsCompiled t object) (one_tree bytes other tree made.tree_of_it is) made.compiled)
+      input executes
 
-  from_out : (file bytes left : List ℕ) (tree : Program) (it : Answer) → IsTree bytes tree → IsInput c left → From file bytes files_before files_after before after it
+  from_out : (file bytes left : List ℕ) (tree : Program) (it : Answer) → IsTree bytes tree → IsInput c left
+      → SourceCourse file bytes files_before files_after before after it
       → (n : ℕ) × StillTells before.out after.out (Appends (take n (mean tree left false turns).output))
   from_out file bytes left tree it is input (failed rose idle) = nothing_out before.out after.out (mean tree left false turns).output idle.out
-  from_out file bytes left tree it is input (wanting same idle) = nothing_out before.out after.out (mean tree left false turns).output idle.out
-  from_out file bytes left tree it is input (went same follows) = follows_out file bytes left tree it is input follows
+  from_out file bytes left tree it is input (no_memory same idle) = nothing_out before.out after.out (mean tree left false turns).output idle.out
+  from_out file bytes left tree it is input (went_on same follows) = follows_out file bytes left tree it is input follows
 
-  pub writes_a_beginning : (it : Answer) → Goes words may_fail files_before files_after before after it → WritesABeginning c
+  pub writes_a_beginning : (it : Answer) → CallMayAnswer words files_before files_after before after it → WritesABeginning c
   writes_a_beginning it way file bytes left tree source input is =
-      from_out file bytes left tree it is input (from_source words may_fail files_before files_after before after err_before err_after report file bytes it source way)
+      from_out file bytes left tree it is input (from_source words files_before files_after before after err_before err_after report file bytes it source way)

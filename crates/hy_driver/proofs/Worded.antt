@@ -4,7 +4,8 @@ use Rattle.hy_words.specs.declared.words.Options.{Options}
 use Rattle.hy_words.specs.Asked.{Asked, ToRun, ToExec}
 use Rattle.hy_words.specs.Reads.{word_at}
 
-pub word_is : (words : List (String Global)) (k : ℕ) (word : String Global) → k < length words → word ≡ get_or words k word → string_bytes word ≡ word_at (map string_bytes words) k
+pub word_is : (words : List (String Global)) (k : ℕ) (word : String Global) → k < length words → word ≡ get_or words k word
+    → string_bytes word ≡ word_at (map string_bytes words) k
 word_is [] k word lt is = absurd (omega arith)
 word_is (first ∷ words) zero word lt is = ap string_bytes is
 word_is (first ∷ words) (suc k) word lt is = word_is words k word (omega arith) is
@@ -12,5 +13,6 @@ word_is (first ∷ words) (suc k) word lt is = word_is words k word (omega arith
 pub run_as : {asked : Option Asked} {file other : List ℕ} → asked ≡ Some (ToRun other) → file ≡ other → asked ≡ Some (ToRun file)
 run_as {asked} {file} {other} is same = is ∙ ap (λ f. Some (ToRun f)) (sym same)
 
-pub exec_as : {asked : Option Asked} {file other : List ℕ} {options : Options} → asked ≡ Some (ToExec other options) → file ≡ other → asked ≡ Some (ToExec file options)
+pub exec_as : {asked : Option Asked} {file other : List ℕ} {options : Options} → asked ≡ Some (ToExec other options) → file ≡ other
+    → asked ≡ Some (ToExec file options)
 exec_as {asked} {file} {other} {options} is same = is ∙ ap (λ f. Some (ToExec f options)) (sym same)

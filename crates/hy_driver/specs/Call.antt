@@ -1,18 +1,22 @@
 -- What is seen of a call of the top function.
 use Rattle.std.specs.Prelude.{◌≡◌, ◌≢◌, ℕ, ◌+◌, List, take, map, string_bytes, Option, Some, String}
 use Rattle.std.specs.declared.alloc.Global.{Global}
+use Rattle.hy_base.specs.declared.files.Files as files_trait
 use Rattle.hy_base.specs.declared.run.Counts.{Counts}
+use Rattle.hy_base.specs.declared.streams.Sink as sink_trait
+use Rattle.hy_base.specs.declared.streams.Source as source_trait
 use Rattle.hy_base.specs.Files.{Held, Holding}
 use Rattle.hy_base.specs.Streams.{Tape}
 use Rattle.hy_front.specs.Phases.{longest}
 use Rattle.hy_words.specs.Asked.{ToRun}
 use Rattle.hy_words.specs.Commands.{command_of}
-use Rattle.hy_driver.specs.declared.due.Report.{Report}
+use Rattle.hy_driver.specs.declared.reply.Report.{Report}
 
--- files at a moment: how often they have failed, and what they tell of each name
-pub record Filed : Type 0 where
+-- files at a moment: how often they have failed, what they tell of each name, and whether a load of it may fail
+pub record Filed : Type 1 where
   pub faults : ℕ
   pub holds : List ℕ → Held
+  pub load_may_fail : List ℕ → Type 0
 
 -- input and output at a moment: how often each has failed, and what each tells
 pub record Streams : Type 0 where
@@ -26,7 +30,8 @@ pub record Messages : Type 0 where
   pub faults : ℕ
   pub told : Option (List ℕ)
 
-pub record Call : Type 0 where
+-- A call: its words; files, input and output, and where messages go, before it and after it; what it answers.
+pub record Call : Type 1 where
   pub words : List (List ℕ)
   pub files_before : Filed
   pub files_after : Filed
@@ -38,14 +43,24 @@ pub record Call : Type 0 where
   pub object : List ℕ
   pub counts : Counts
 
-abbrev pub filed : ℕ → (List ℕ → Held) → Filed
-filed faults holds = record { faults = faults; holds = holds }
+-- What is seen of objects at a moment, by the members of their traits.
+abbrev pub files_seen : {F : Type 0} → files_trait.Ghosts F → F → Filed
+files_seen told files = record { faults = told.faults files; holds = told.holds files; load_may_fail = told.load_may_fail files }
 
-abbrev pub streams : (input_faults out_faults : ℕ) → Option Tape → Option (List ℕ) → Streams
-streams input_faults out_faults input out = record { input_faults = input_faults; out_faults = out_faults; input = input; out = out }
+abbrev pub streams_seen : {I K : Type 0} → source_trait.Ghosts I → sink_trait.Ghosts K → I → K → Streams
+streams_seen source sink input out = record {
+  input_faults = source.faults input;
+  out_faults = sink.faults out;
+  input = source.tells input;
+  out =
+      sink.tells out;
+}
 
 abbrev pub messages : ℕ → Option (List ℕ) → Messages
 messages faults told = record { faults = faults; told = told }
+
+abbrev pub messages_seen : {E : Type 0} → sink_trait.Ghosts E → E → Messages
+messages_seen sink err = messages (sink.faults err) (sink.tells err)
 
 abbrev pub call_of : List (List ℕ) → Filed → Filed → Streams → Streams → Messages → Messages → Report → Call
 call_of words files_before files_after before after err_before err_after report =
@@ -62,13 +77,13 @@ call_of words files_before files_after before after err_before err_after report 
       counts = report.counts;
     }
 
--- a call over objects whose traits tell so of them, with each object before the call and after it
-abbrev pub call : {F I K E : Type 0} → (F → ℕ) → (F → List ℕ → Held) → (I → ℕ) → (I → Option Tape) → (K → ℕ) → (K → Option (List ℕ)) → (E → ℕ) → (E → Option (List ℕ))
+-- what is seen of a call over such objects, each given before the call and after it
+abbrev pub call_seen : {F I K E : Type 0} → files_trait.Ghosts F → source_trait.Ghosts I → sink_trait.Ghosts K → sink_trait.Ghosts E
     → List (String Global) → F → F → I → I → K → K → E → E → Report → Call
-call f_faults f_holds i_faults i_tells k_faults k_tells e_faults e_tells words f f' i i' k k' e e' report =
-    call_of (map string_bytes words) (filed (f_faults f) (f_holds f)) (filed (f_faults f') (f_holds f'))
-    (streams (i_faults i) (k_faults k) (i_tells i) (k_tells k)) (streams (i_faults i') (k_faults k') (i_tells i') (k_tells k'))
-    (messages (e_faults e) (e_tells e)) (messages (e_faults e') (e_tells e')) report
+call_seen of_files of_input of_out of_err words files files' input input' out out' err err' report =
+    call_of (map string_bytes words) (files_seen of_files files) (files_seen of_files files')
+    (streams_seen of_input of_out input out) (streams_seen of_input of_out input' out')
+    (messages_seen of_err err) (messages_seen of_err err') report
 
 -- The command runs this file, and these bytes are loaded: the files tell what it holds.
 pub record IsSource (c : Call) (file bytes : List ℕ) : Type 0 where
@@ -85,7 +100,7 @@ pub record IsInput (c : Call) (left : List ℕ) : Type 0 where
   pub still : c.after.input ≡ Some new
   pub left_of_it : left ≡ old.left
 
--- no count of faults rose, and memory was not wanting
+-- no count of faults rose, and the call did not run out of memory
 pub record IsQuiet (c : Call) : Type 0 where
   pub files : c.files_after.faults ≡ c.files_before.faults
   pub input : c.after.input_faults ≡ c.before.input_faults

@@ -13,7 +13,7 @@ use Rattle.hy_front.specs.Phases.{longest, IsTree, Breaks}
 use Rattle.hy_object.specs.declared.object.Object.{Object}
 use Rattle.hy_object.specs.Bytes.{bytes_of}
 use Rattle.hy_object.specs.States.{Stop, Ended}
-use Rattle.hy_object.specs.Steps.{no_counts}
+use Rattle.hy_base.specs.Counted.{no_counts}
 use Rattle.hy_machine.specs.Built.{IsBuilt}
 use Rattle.hy_runs.specs.Runs.{RanToItsEnd, WasCutOff, CountsNone, CountsCause}
 use Rattle.hy_driver.specs.Call.{Filed, Streams}
@@ -25,7 +25,7 @@ use Rattle.hy_words.specs.declared.words.Options.{Options}
 use Rattle.hy_words.specs.Asked.{Asked, ToRun, ToExec, file_of}
 use Rattle.hy_words.specs.Commands.{command_of}
 
--- what is answered, unless its message fails; `lines` are those of the report, if one is due
+-- what is answered, unless its message fails; `lines` are those of the report, if there is one
 pub record Answer : Type 0 where
   pub status : ℕ
   pub message : List ℕ
@@ -33,7 +33,7 @@ pub record Answer : Type 0 where
   pub object : List ℕ
   pub counts : Counts
 
--- no report is due
+-- without a report
 abbrev pub answer : ℕ → List ℕ → List ℕ → Counts → Answer
 answer status message object counts = record { status = status; message = message; lines = []; object = object; counts = counts }
 
@@ -85,53 +85,65 @@ cause_message cause.Output = output_fault
 cause_message cause.NoMemory = out_of_memory
 
 -- how the run of an object may go
-pub data Executes (file bytes : List ℕ) (object : Object) (before after : Streams) : Answer → Type 0 where
+pub data RunMayAnswer (file bytes : List ℕ) (object : Object) (before after : Streams) : Answer → Type 0 where
   ended : {ending : Ending} → IsRun object before after ending
-      → Executes file bytes object before after (ended_answer file bytes (bytes_of object) ending)
-  message_wanted : {ending : Ending} → IsRun object before after ending
-      → Executes file bytes object before after (answer 8 out_of_memory (bytes_of object) ending.counts)
+      → RunMayAnswer file bytes object before after (ended_answer file bytes (bytes_of object) ending)
+  ended_without_message : {ending : Ending} → IsRun object before after ending
+      → RunMayAnswer file bytes object before after (answer 8 out_of_memory (bytes_of object) ending.counts)
   cut_off : {fault : RunFault} → IsCut object before after fault
-      → Executes file bytes object before after (answer (cause_status fault.cause) (cause_message fault.cause) (bytes_of object) fault.counts)
+      → RunMayAnswer file bytes object before after (answer (cause_status fault.cause) (cause_message fault.cause) (bytes_of object) fault.counts)
 
 -- the source has this tree, and the object does what it means, and is one that the machine runs
-pub record IsMade (bytes : List ℕ) (tree : Program) (object : Object) : Type 0 where
+pub record IsObjectOf (bytes : List ℕ) (tree : Program) (object : Object) : Type 0 where
   pub tree_of_it : IsTree bytes tree
   pub compiled : IsCompiled tree object
   pub built : IsBuilt object
 
 -- how the way from a source on may go
-pub data Follows (file bytes : List ℕ) (before after : Streams) : Answer → Type 0 where
-  refused : {f : Refusal} → IsFirst (Breaks bytes) (Some f) → IsIdle before after → Follows file bytes before after (bare 1 (refusal_message file bytes f))
-  memory_wanted : IsIdle before after → Follows file bytes before after (bare 8 out_of_memory)
-  executed : {tree : Program} {object : Object} {it : Answer} → IsMade bytes tree object → Executes file bytes object before after it → Follows file bytes before after it
+pub data SourceMayAnswer (file bytes : List ℕ) (before after : Streams) : Answer → Type 0 where
+  refused : {f : Refusal} → IsFirst (Breaks bytes) (Some f) → IsIdle before after
+      → SourceMayAnswer file bytes before after (bare 1 (refusal_message file bytes f))
+  not_compiled : IsIdle before after → SourceMayAnswer file bytes before after (bare 8 out_of_memory)
+  executed : {tree : Program} {object : Object} {it : Answer} → IsObjectOf bytes tree object → RunMayAnswer file bytes object before after it
+      → SourceMayAnswer file bytes before after it
 
 -- EXEC
 
 -- a run that stopped so, of an object file with these bytes
 abbrev pub stopped_answer : List ℕ → Options → List ℕ → Stop → Counts → Answer
 stopped_answer file options bytes stop counts =
-    record { status = status_of_stop stop; message = stop_message file options.turns stop; lines = lines_of options.report counts; object = bytes; counts = counts }
+    record {
+      status = status_of_stop stop;
+      message = stop_message file options.turns stop;
+      lines = lines_of options.report counts;
+      object = bytes;
+      counts = counts;
+    }
 
 -- how the execution of a file with these bytes may go
-pub data ExecutesFile (file bytes : List ℕ) (options : Options) (before after : Streams) : Answer → Type 0 where
-  bad : {place : ℕ} → IsBadFile bytes place → IsIdle before after → ExecutesFile file bytes options before after (bare 10 (bad_object_message file place))
-  not_decoded : IsIdle before after → ExecutesFile file bytes options before after (bare 8 out_of_memory)
+pub data FileMayAnswer (file bytes : List ℕ) (options : Options) (before after : Streams) : Answer → Type 0 where
+  bad : {place : ℕ} → IsBadFile bytes place → IsIdle before after → FileMayAnswer file bytes options before after (bare 10 (bad_object_message file place))
+  not_decoded : IsIdle before after → FileMayAnswer file bytes options before after (bare 8 out_of_memory)
   stopped : {object : Object} {stop : Stop} {counts : Counts} → IsFileOf bytes object → IsStopped object options.turns before after stop counts
-      → ExecutesFile file bytes options before after (stopped_answer file options bytes stop counts)
-  untold : {object : Object} {stop : Stop} {counts : Counts} → IsFileOf bytes object → IsStopped object options.turns before after stop counts
-      → ExecutesFile file bytes options before after (answer 8 out_of_memory bytes counts)
+      → FileMayAnswer file bytes options before after (stopped_answer file options bytes stop counts)
+  stopped_without_message : {object : Object} {stop : Stop} {counts : Counts} → IsFileOf bytes object → IsStopped object options.turns before after stop counts
+      → FileMayAnswer file bytes options before after (answer 8 out_of_memory bytes counts)
   cut_short : {object : Object} {fault : RunFault} → IsFileOf bytes object → IsCutShort object options.turns before after fault
-      → ExecutesFile file bytes options before after (answer (cause_status fault.cause) (cause_message fault.cause) bytes fault.counts)
+      → FileMayAnswer file bytes options before after (answer (cause_status fault.cause) (cause_message fault.cause) bytes fault.counts)
 
 -- the whole of it; the files may fail in loading
-pub data Goes (words : List (List ℕ)) (may_fail : List ℕ → Type 0) (files_before files_after : Filed) (before after : Streams) : Answer → Type 0 where
+pub data CallMayAnswer (words : List (List ℕ)) (files_before files_after : Filed) (before after : Streams) : Answer → Type 0 where
   no_command : command_of words ≡ None → files_after.faults ≡ files_before.faults → IsIdle before after
-      → Goes words may_fail files_before files_after before after (bare 2 usage)
-  files_failed : {asked : Asked} → command_of words ≡ Some asked → may_fail (file_of asked) → files_after.faults ≡ suc files_before.faults → IsIdle before after
-      → Goes words may_fail files_before files_after before after (bare 5 file_fault)
+      → CallMayAnswer words files_before files_after before after (bare 2 usage)
+  files_failed : {asked : Asked} → command_of words ≡ Some asked → files_before.load_may_fail (file_of asked)
+      → files_after.faults ≡ suc files_before.faults → IsIdle before after
+      → CallMayAnswer words files_before files_after before after (bare 5 file_fault)
   not_loaded : {asked : Asked} → command_of words ≡ Some asked → files_after.faults ≡ files_before.faults → IsIdle before after
-      → Goes words may_fail files_before files_after before after (bare 8 out_of_memory)
-  loaded : {file bytes : List ℕ} {it : Answer} → command_of words ≡ Some (ToRun file) → Loads (files_before.holds file) longest bytes → files_after.faults ≡ files_before.faults
-      → Follows file bytes before after it → Goes words may_fail files_before files_after before after it
-  loaded_object : {file bytes : List ℕ} {options : Options} {it : Answer} → command_of words ≡ Some (ToExec file options) → Loads (files_before.holds file) longest_object bytes
-      → files_after.faults ≡ files_before.faults → ExecutesFile file bytes options before after it → Goes words may_fail files_before files_after before after it
+      → CallMayAnswer words files_before files_after before after (bare 8 out_of_memory)
+  loaded : {file bytes : List ℕ} {it : Answer} → command_of words ≡ Some (ToRun file) → Loads (files_before.holds file) longest bytes
+      → files_after.faults ≡ files_before.faults
+      → SourceMayAnswer file bytes before after it → CallMayAnswer words files_before files_after before after it
+  loaded_object : {file bytes : List ℕ} {options : Options} {it : Answer} → command_of words ≡ Some (ToExec file options)
+      → Loads (files_before.holds file) longest_object bytes
+      → files_after.faults ≡ files_before.faults → FileMayAnswer file bytes options before after it
+      → CallMayAnswer words files_before files_after before after it

@@ -13,13 +13,13 @@ use Rattle.hy_object.specs.declared.stuck.Pc.{Pc}
 use Rattle.hy_object.specs.Places.{Spells, IsBadAt}
 use Rattle.hy_object.specs.Runs.{Run, Runs}
 use Rattle.hy_object.specs.States.{Stop, Ended, Stuck}
-use Rattle.hy_object.specs.Steps.{no_counts}
+use Rattle.hy_base.specs.Counted.{no_counts}
 use Rattle.hy_runs.specs.Runs.{Told, Faults, told, faults, Appends, IsTaken, RanToItsEnd, WasCutOff, CountsNone, CountsCause}
 use Rattle.hy_words.specs.declared.words.Options.{Options}
 use Rattle.hy_words.specs.Asked.{ToExec}
 use Rattle.hy_words.specs.Commands.{command_of}
 use Rattle.hy_driver.specs.Call.{Call, Streams, IsInput, IsQuiet}
-use Rattle.hy_driver.specs.Headline.{IsUntouched, Rose, status_of, with_report}
+use Rattle.hy_driver.specs.Headline.{IsUntouched, RisesByOne, status_of, with_report}
 use Rattle.hy_driver.specs.Texts.{object_trap_message, stuck_message, spent_message, bad_object_message, report_lines}
 
 -- the most bytes that an object file has
@@ -70,7 +70,8 @@ pub record IsRunOfFile (c : Call) (file : List ℕ) (options : Options) (bytes l
   pub message : StillTells c.err_before.told c.err_after.told (Appends (with_report c (stop_message file options.turns run.stop)))
 
 abbrev pub ExecutesTheObject : Call → Type 0
-ExecutesTheObject c = (file : List ℕ) (options : Options) (bytes left : List ℕ) (object : Object) → IsObjectFile c file options bytes → IsInput c left → IsQuiet c → IsFileOf bytes object
+ExecutesTheObject c = (file : List ℕ) (options : Options) (bytes left : List ℕ) (object : Object) → IsObjectFile c file options bytes → IsInput c left
+    → IsQuiet c → IsFileOf bytes object
     → IsRunOfFile c file options bytes left object
 
 -- nothing was run
@@ -88,7 +89,8 @@ pub record IsRefusedFile (c : Call) (file : List ℕ) (place : ℕ) : Type 0 whe
   pub message : IsQuiet c → StillTells c.err_before.told c.err_after.told (Appends (bad_object_message file place))
 
 abbrev pub RefusesTheFile : Call → Type 0
-RefusesTheFile c = (file : List ℕ) (options : Options) (bytes : List ℕ) (place : ℕ) → IsObjectFile c file options bytes → IsBadFile bytes place → IsRefusedFile c file place
+RefusesTheFile c = (file : List ℕ) (options : Options) (bytes : List ℕ) (place : ℕ) → IsObjectFile c file options bytes → IsBadFile bytes place
+    → IsRefusedFile c file place
 
 -- AFTER A FAULT
 
@@ -114,16 +116,18 @@ abbrev pub KeepsTo : Call → Object → ℕ → Type 0
 KeepsTo c object n = RanNothing c ⊎ (CameToItsEnd c object n ⊎ ((cause : RunCause) × WasCutOffBy c object n cause))
 
 abbrev pub KeepsToTheRun : Call → Type 0
-KeepsToTheRun c = (file : List ℕ) (options : Options) (bytes : List ℕ) (object : Object) → IsObjectFile c file options bytes → IsFileOf bytes object → KeepsTo c object options.turns
+KeepsToTheRun c = (file : List ℕ) (options : Options) (bytes : List ℕ) (object : Object) → IsObjectFile c file options bytes → IsFileOf bytes object
+    → KeepsTo c object options.turns
 
 -- the bytes of the object are returned once they are decoded: where nothing failed before, and where the run was cut off
 pub record IsReturned (c : Call) (bytes : List ℕ) : Type 0 where
   pub either : (c.object ≡ []) ⊎ (c.object ≡ bytes)
   pub whole : c.files_after.faults ≡ c.files_before.faults → c.err_after.faults ≡ c.err_before.faults → c.status ≢ 8 → c.object ≡ bytes
-  pub cut : Rose c.before.input_faults c.after.input_faults ⊎ Rose c.before.out_faults c.after.out_faults → c.object ≡ bytes
+  pub cut : RisesByOne c.before.input_faults c.after.input_faults ⊎ RisesByOne c.before.out_faults c.after.out_faults → c.object ≡ bytes
 
 abbrev pub ReturnsTheBytes : Call → Type 0
-ReturnsTheBytes c = (file : List ℕ) (options : Options) (bytes : List ℕ) (object : Object) → IsObjectFile c file options bytes → IsFileOf bytes object → IsReturned c bytes
+ReturnsTheBytes c = (file : List ℕ) (options : Options) (bytes : List ℕ) (object : Object) → IsObjectFile c file options bytes → IsFileOf bytes object
+    → IsReturned c bytes
 
 -- CAUSES
 
@@ -157,4 +161,5 @@ pub record Answers9 (c : Call) : Type 0 where
 
 pub record Answers10 (c : Call) : Type 0 where
   pub only : c.status ≡ 10 → IsExecution c
-  pub bad : (file : List ℕ) (options : Options) (bytes : List ℕ) → IsObjectFile c file options bytes → IsQuiet c → ((c.status ≡ 10) ↔ ((place : ℕ) × IsBadFile bytes place))
+  pub bad : (file : List ℕ) (options : Options) (bytes : List ℕ) → IsObjectFile c file options bytes → IsQuiet c
+      → ((c.status ≡ 10) ↔ ((place : ℕ) × IsBadFile bytes place))

@@ -1,5 +1,6 @@
 -- The clauses of the top call: those on `run`, and those on every command.
-use Rattle.std.specs.Prelude.{◌≡◌, ◌≢◌, ◌⊎◌, ◌↔◌, ◌==◌, ◌<◌, ◌&&◌, ◌||◌, if◌then◌else◌, ℕ, suc, Bool, true, false, List, [], ◌∷◌, ◌++◌, take, Some, None, Option}
+use Rattle.std.specs.Prelude.{◌≡◌, ◌≢◌, ◌⊎◌, ◌↔◌, ◌==◌, ◌<◌, ◌&&◌, ◌||◌, if◌then◌else◌, ℕ, suc, Bool, true, false, List, [], ◌∷◌, ◌++◌, take, Some}
+use Rattle.std.specs.Prelude.{None, Option}
 use Rattle.hy_base.specs.declared.position.Span.{Span}
 use Rattle.hy_base.specs.declared.run.Counts.{Counts}
 use Rattle.hy_base.specs.declared.run.TrapKind.{TrapKind}
@@ -13,7 +14,7 @@ use Rattle.hy_meaning.specs.Meaning.{mean}
 use Rattle.hy_object.specs.declared.object.Object.{Object}
 use Rattle.hy_object.specs.Bytes.{bytes_of}
 use Rattle.hy_object.specs.Runs.{Run, Runs}
-use Rattle.hy_object.specs.Steps.{no_counts}
+use Rattle.hy_base.specs.Counted.{no_counts}
 use Rattle.hy_runs.specs.Runs.{Appends, IsTaken}
 use Rattle.hy_driver.specs.Call.{Call, IsSource, IsInput, IsQuiet}
 use Rattle.hy_driver.specs.Compiled.{IsCompiled}
@@ -27,7 +28,7 @@ turns = 1000000000
 
 -- REFUSAL
 
--- nothing went out and no input was taken
+-- nothing was written and no input was taken
 pub record IsUntouched (c : Call) : Type 0 where
   pub input : c.after.input ≡ c.before.input
   pub out : c.after.out ≡ c.before.out
@@ -84,11 +85,12 @@ pub record IsRunOf (c : Call) (file bytes left : List ℕ) (tree : Program) : Ty
   pub message : StillTells c.err_before.told c.err_after.told (Appends (end_message file bytes (mean tree left false turns).end))
 
 abbrev pub RunsAsItMeans : Call → Type 0
-RunsAsItMeans c = (file bytes left : List ℕ) (tree : Program) → IsSource c file bytes → IsInput c left → IsQuiet c → IsTree bytes tree → IsRunOf c file bytes left tree
+RunsAsItMeans c = (file bytes left : List ℕ) (tree : Program) → IsSource c file bytes → IsInput c left → IsQuiet c → IsTree bytes tree
+    → IsRunOf c file bytes left tree
 
 -- AFTER A FAULT
 
--- whatever fault came, what went out is the beginning of what the copying meaning writes
+-- whatever fault came, what was written is the beginning of what the copying meaning writes
 abbrev pub WritesABeginning : Call → Type 0
 WritesABeginning c = (file bytes left : List ℕ) (tree : Program) → IsSource c file bytes → IsInput c left → IsTree bytes tree
     → (n : ℕ) × StillTells c.before.out c.after.out (Appends (take n (mean tree left false turns).output))
@@ -127,39 +129,39 @@ asks_report (Some (ToExec file options)) = options.report
 abbrev pub is_reported : ℕ → Bool
 is_reported status = status == 0 || (status == 3 || (status == 4 || status == 9))
 
--- the lines of the report, where one is due
-abbrev pub due_lines : Option Asked → ℕ → Counts → List ℕ
-due_lines asked status counts = if is_reported status && asks_report asked then report_lines counts else []
+-- the lines of the report, where it is asked for and the status has one
+abbrev pub lines_due : Option Asked → ℕ → Counts → List ℕ
+lines_due asked status counts = if is_reported status && asks_report asked then report_lines counts else []
 
--- a message, with the lines behind it, if there are any
+-- a message, with the lines after it, if there are any
 abbrev pub with_lines : (message lines : List ℕ) → List ℕ
 with_lines message [] = message
 with_lines message (byte ∷ lines) = message ++ (byte ∷ lines)
 
 abbrev pub with_report : Call → List ℕ → List ℕ
-with_report c message = with_lines message (due_lines (command_of c.words) c.status c.counts)
+with_report c message = with_lines message (lines_due (command_of c.words) c.status c.counts)
 
 abbrev pub SaysWhatItAnswers : Call → Type 0
 SaysWhatItAnswers c = c.err_after.faults ≡ c.err_before.faults → (text : List ℕ) → plain_message c.status ≡ Some text
     → StillTells c.err_before.told c.err_after.told (Appends (with_report c text))
 
 -- a count has risen
-abbrev pub Rose : ℕ → ℕ → Type 0
-Rose before after = after ≡ suc before
+abbrev pub RisesByOne : ℕ → ℕ → Type 0
+RisesByOne before after = after ≡ suc before
 
 -- each count rises by one at the most
-abbrev pub RisesOnce : ℕ → ℕ → Type 0
-RisesOnce before after = (after ≡ before) ⊎ Rose before after
+abbrev pub RisesAtMostByOne : ℕ → ℕ → Type 0
+RisesAtMostByOne before after = (after ≡ before) ⊎ RisesByOne before after
 
 -- where a report is asked for it may fail, and then the message of that
-abbrev pub RisesTwice : Call → Type 0
-RisesTwice c = (asks_report (command_of c.words) ≡ true) × (c.err_after.faults ≡ suc (suc c.err_before.faults))
+abbrev pub RisesByTwo : Call → Type 0
+RisesByTwo c = (asks_report (command_of c.words) ≡ true) × (c.err_after.faults ≡ suc (suc c.err_before.faults))
 
 pub record CountsOneFault (c : Call) : Type 0 where
-  pub files : RisesOnce c.files_before.faults c.files_after.faults
-  pub input : RisesOnce c.before.input_faults c.after.input_faults
-  pub out : RisesOnce c.before.out_faults c.after.out_faults
-  pub err : RisesOnce c.err_before.faults c.err_after.faults ⊎ RisesTwice c
+  pub files : RisesAtMostByOne c.files_before.faults c.files_after.faults
+  pub input : RisesAtMostByOne c.before.input_faults c.after.input_faults
+  pub out : RisesAtMostByOne c.before.out_faults c.after.out_faults
+  pub err : RisesAtMostByOne c.err_before.faults c.err_after.faults ⊎ RisesByTwo c
 
 -- CAUSES
 
@@ -188,12 +190,12 @@ Answers3 c = AnswersEnd 3 IsTrap c
 abbrev pub Answers4 : Call → Type 0
 Answers4 c = AnswersEnd 4 (λ e. e ≡ end.Spent) c
 
-abbrev pub Answers5 : (List ℕ → Type 0) → Call → Type 0
-Answers5 may_fail c = ((c.status ≡ 5) ↔ (Rose c.files_before.faults c.files_after.faults × (c.err_after.faults ≡ c.err_before.faults)))
-    × (c.status ≡ 5 → (asked : Asked) × (command_of c.words ≡ Some asked) × may_fail (file_of asked))
+abbrev pub Answers5 : Call → Type 0
+Answers5 c = ((c.status ≡ 5) ↔ (RisesByOne c.files_before.faults c.files_after.faults × (c.err_after.faults ≡ c.err_before.faults)))
+    × (c.status ≡ 5 → (asked : Asked) × (command_of c.words ≡ Some asked) × c.files_before.load_may_fail (file_of asked))
 
 abbrev pub Answers6 : Call → Type 0
-Answers6 c = (c.status ≡ 6) ↔ (Rose c.before.input_faults c.after.input_faults × (c.err_after.faults ≡ c.err_before.faults))
+Answers6 c = (c.status ≡ 6) ↔ (RisesByOne c.before.input_faults c.after.input_faults × (c.err_after.faults ≡ c.err_before.faults))
 
 abbrev pub Answers7 : Call → Type 0
-Answers7 c = (c.status ≡ 7) ↔ (Rose c.before.out_faults c.after.out_faults ⊎ (c.err_before.faults < c.err_after.faults))
+Answers7 c = (c.status ≡ 7) ↔ (RisesByOne c.before.out_faults c.after.out_faults ⊎ (c.err_before.faults < c.err_after.faults))

@@ -1,10 +1,11 @@
 pub mod Call
 pub mod Compiled
 pub mod Course
-pub mod Due
 pub mod Executed
 pub mod Headline
 pub mod Lower
 pub mod Message
+pub mod Promises
+pub mod Reply
 pub mod Scopes
 pub mod Texts

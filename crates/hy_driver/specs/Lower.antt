@@ -67,18 +67,18 @@ links_in (T.Assign target value at) = links_of value
 links_in (T.Evaluate e at) = printed_links (printed e)
 links_in stmt = T.NoLink
 
-abbrev pub spans_behind : ℕ → T.Links → ℕ
-spans_behind span T.NoLink = span
-spans_behind span (T.ThenLink operator token operand at links) = spans_behind (suc span) links
+abbrev pub spans_after : ℕ → T.Links → ℕ
+spans_after span T.NoLink = span
+spans_after span (T.ThenLink operator token operand at links) = spans_after (suc span) links
 
--- the names behind a statement
+-- the names after a statement
 abbrev pub declares : Scope → T.Stmt → Scope
 declares scope (T.Binding introducer name written value at) = with_name scope name.text
 declares scope stmt = scope
 
 abbrev pub block_code : Scope → ℕ → T.Stmts → List Instr → List Instr
 block_code scope span T.NoStmt rest = rest
-block_code scope span (T.ThenStmt s stmts) rest = stmt_code scope span s (block_code (declares scope s) (spans_behind span (links_in s)) stmts rest)
+block_code scope span (T.ThenStmt s stmts) rest = stmt_code scope span s (block_code (declares scope s) (spans_after span (links_in s)) stmts rest)
 
 -- the spans of a sum's operators
 abbrev pub more_spans : T.Links → List Span → List Span
@@ -92,7 +92,7 @@ abbrev pub block_spans : T.Stmts → List Span → List Span
 block_spans T.NoStmt rest = rest
 block_spans (T.ThenStmt s stmts) rest = stmt_spans s (block_spans stmts rest)
 
--- the names behind a block
+-- the names after a block
 abbrev pub declared : Scope → T.Stmts → Scope
 declared scope T.NoStmt = scope
 declared scope (T.ThenStmt s stmts) = declared (declares scope s) stmts
@@ -106,9 +106,9 @@ main_fun stmts = record { accesses = 0; owned = 0; result = 0; words = variable 
 abbrev pub lowered : T.Program → Object
 lowered tree = record { spans = block_spans (main_of tree.decls) []; funs = main_fun (main_of tree.decls) ∷ [] }
 
--- what was put behind a list, as a function of what comes behind that
-abbrev pub Puts : {A : Type 0} → List A → List A → (List A → List A) → Type 0
-Puts {A} old new front = (rest : List A) → new ++ rest ≡ old ++ front rest
+-- what was appended to a list, as a function of what comes after it
+abbrev pub Extends : {A : Type 0} → List A → List A → (List A → List A) → Type 0
+Extends {A} old new front = (rest : List A) → new ++ rest ≡ old ++ front rest
 
 -- the numbers of an instruction that is put are of 32 and 64 bits, as the program's are
 abbrev pub IsSized : Instr → Type 0

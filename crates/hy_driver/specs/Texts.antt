@@ -47,11 +47,11 @@ abbrev pub located : List ℕ → List ℕ → Span → List ℕ → List ℕ
 located file bytes span rest = file ++ (place_text (line_number bytes span.from) (column_number bytes span.from) span ++ rest)
 
 -- two words and the end of the line
-abbrev pub said : List ℕ → List ℕ → List ℕ
-said word text = word ++ (codes " " ++ line text)
+abbrev pub worded : List ℕ → List ℕ → List ℕ
+worded word text = word ++ (codes " " ++ line text)
 
 abbrev pub refusal_message : List ℕ → List ℕ → Refusal → List ℕ
-refusal_message file bytes f = located file bytes f.span (said (name_of f.rule) (text_of f.rule))
+refusal_message file bytes f = located file bytes f.span (worded (name_of f.rule) (text_of f.rule))
 
 abbrev pub trap_text : TrapKind → List ℕ
 trap_text trap.Overflow = codes "overflow"
@@ -62,7 +62,7 @@ trap_text trap.Input = codes "bad input"
 trap_text trap.Precondition = codes "precondition"
 
 abbrev pub trap_message : List ℕ → List ℕ → TrapKind → Span → List ℕ
-trap_message file bytes kind span = located file bytes span (said (codes "trap") (trap_text kind))
+trap_message file bytes kind span = located file bytes span (worded (codes "trap") (trap_text kind))
 
 abbrev pub spent_message : ℕ → List ℕ
 spent_message n = codes "hyloc: spent after " ++ (decimal n ++ line (codes " turns"))
@@ -71,7 +71,8 @@ spent_message n = codes "hyloc: spent after " ++ (decimal n ++ line (codes " tur
 
 -- FILE (FROM-TO): trap KIND
 abbrev pub object_trap_message : List ℕ → TrapKind → Span → List ℕ
-object_trap_message file why span = file ++ (codes " (" ++ (decimal span.from ++ (codes "-" ++ (decimal span.to ++ (codes "): trap " ++ line (trap_text why))))))
+object_trap_message file why span =
+    file ++ (codes " (" ++ (decimal span.from ++ (codes "-" ++ (decimal span.to ++ (codes "): trap " ++ line (trap_text why))))))
 
 abbrev pub stuck_text : Kind → List ℕ
 stuck_text kind.Freed = codes "freed"
@@ -85,7 +86,8 @@ stuck_text kind.Order = codes "order"
 
 -- FILE: stuck KIND at FUN:AT
 abbrev pub stuck_message : List ℕ → Kind → Pc → List ℕ
-stuck_message file why place = file ++ (codes ": stuck " ++ (stuck_text why ++ (codes " at " ++ (decimal place.fun ++ (codes ":" ++ line (decimal place.at))))))
+stuck_message file why place =
+    file ++ (codes ": stuck " ++ (stuck_text why ++ (codes " at " ++ (decimal place.fun ++ (codes ":" ++ line (decimal place.at))))))
 
 abbrev pub bad_object_message : List ℕ → ℕ → List ℕ
 bad_object_message file place = file ++ (codes ": bad object at " ++ line (decimal place))
@@ -98,5 +100,6 @@ count_line name count = name ++ (codes " " ++ line (decimal count))
 -- what a run has counted, in five lines
 abbrev pub report_lines : Counts → List ℕ
 report_lines counts =
-    count_line (codes "turns") counts.turns ++ count_line (codes "blocks") counts.blocks ++ count_line (codes "freed") counts.freed ++ count_line (codes "opened") counts.opened
+    count_line (codes "turns") counts.turns ++ count_line (codes "blocks") counts.blocks ++ count_line (codes "freed") counts.freed ++ count_line
+    (codes "opened") counts.opened
     ++ count_line (codes "closed") counts.closed

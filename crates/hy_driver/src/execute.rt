@@ -2,16 +2,16 @@
 ghost use Rattle.std.specs.Prelude.{◌≡◌, ◌-◌, ◌^◌, ◌<◌, ◌≤◌, IfOk};
 ghost use Rattle.hy_checked.specs.Endings.{stop_of, counts_of};
 ghost use Rattle.hy_object.specs.States.{Ended};
-ghost use Rattle.hy_driver.specs.Call.{streams};
-ghost use Rattle.hy_driver.specs.Course.{answer, bare, IsEither, ExecutesFile, stopped_answer};
-ghost use Rattle.hy_driver.specs.Due.{answer_of};
+ghost use Rattle.hy_driver.specs.Call.{streams_seen};
+ghost use Rattle.hy_driver.specs.Course.{answer, bare, IsEither, FileMayAnswer, stopped_answer};
+ghost use Rattle.hy_driver.specs.Reply.{answer_of};
 ghost use Rattle.hy_driver.specs.Executed.{IsFileOf, status_of_stop, stop_message, lines_of};
 ghost use Rattle.hy_driver.specs.Message.{bytes_of_message};
 ghost use Rattle.hy_driver.specs.Texts.{bad_object_message, out_of_memory};
 
-use crate::due::{Due, NO_COUNTS, Report, bare, cut_off, wanting, with_message};
 use crate::message::{self, Message, OUT_OF_MEMORY};
-use hy_base::{Counts, End, NoMemory, Sink, Source};
+use crate::reply::{Reply, Report, bare, cut_off, ran_out_of_memory, with_message};
+use hy_base::{Counts, End, NO_COUNTS, NoMemory, Sink, Source};
 use hy_checked::{CheckedEnding, exec};
 use hy_object::{Object, ObjectFault, decode};
 use hy_words::Options;
@@ -20,9 +20,9 @@ use std::alloc::Global;
 /// The most bytes that an object file has.
 pub const LONGEST_OBJECT: u32 = 268_435_456;
 
-// What is told of a run that came to its end.
+// The status, the message and the lines for a run that came to its end.
 #[derive(Drop)]
-pub struct Said {
+pub struct EndReply {
     pub status: u8,
     pub message: Message,
     pub lines: Message,
@@ -58,15 +58,15 @@ fn message_of_end(alloc: Global, file: &str, turns: u64, end: End) -> Result<Mes
         End::Done => Ok(Message::Silent),
         End::Trap(kind, span) => {
             let text = message::trapped_in_object(alloc, file, kind, span)?;
-            Ok(Message::Made(text))
+            Ok(Message::Owned(text))
         }
         End::Spent => {
             let text = message::spent(alloc, turns)?;
-            Ok(Message::Made(text))
+            Ok(Message::Owned(text))
         }
         End::Asks => {
             let text = message::spent(alloc, turns)?;
-            Ok(Message::Made(text))
+            Ok(Message::Owned(text))
         }
     }
 }
@@ -83,12 +83,12 @@ fn message_of(
         CheckedEnding::Ended(ending) => message_of_end(alloc, file, turns, ending.end),
         CheckedEnding::Stuck(kind, at, _) => {
             let text = message::stuck(alloc, file, kind, at)?;
-            Ok(Message::Made(text))
+            Ok(Message::Owned(text))
         }
     }
 }
 
-// The lines that tell the counts, where they are asked for.
+// The lines of the counts, where they are asked for.
 fn lines_of(alloc: Global, report: bool, counts: Counts) -> Result<Message, NoMemory>
     ensures { IfOk result (λ lines. bytes_of_message lines ≡ lines_of report counts) }
 {
@@ -96,22 +96,22 @@ fn lines_of(alloc: Global, report: bool, counts: Counts) -> Result<Message, NoMe
         return Ok(Message::Silent);
     }
     let text = message::counted(alloc, counts)?;
-    Ok(Message::Made(text))
+    Ok(Message::Owned(text))
 }
 
-fn said_of(
+fn reply_to_end(
     alloc: Global,
     file: &str,
     options: Options,
     ending: CheckedEnding,
-) -> Result<Said, NoMemory>
-    ensures status { IfOk result (λ said. said.status ≡ status_of_stop (stop_of ending)) }
-    ensures message { IfOk result (λ said. bytes_of_message said.message ≡ stop_message file.now options.turns (stop_of ending)) }
-    ensures lines { IfOk result (λ said. bytes_of_message said.lines ≡ lines_of options.report (counts_of ending)) }
+) -> Result<EndReply, NoMemory>
+    ensures status { IfOk result (λ reply. reply.status ≡ status_of_stop (stop_of ending)) }
+    ensures message { IfOk result (λ reply. bytes_of_message reply.message ≡ stop_message file.now options.turns (stop_of ending)) }
+    ensures lines { IfOk result (λ reply. bytes_of_message reply.lines ≡ lines_of options.report (counts_of ending)) }
 {
     let message = message_of(alloc, file, options.turns, ending)?;
     let lines = lines_of(alloc, options.report, counts_of(ending))?;
-    Ok(Said {
+    Ok(EndReply {
         status: status_of(ending),
         message,
         lines,
@@ -119,26 +119,27 @@ fn said_of(
 }
 
 // A run that came to its end.
-fn stop(alloc: Global, file: &str, options: Options, bytes: Vec<u8>, ending: CheckedEnding) -> Due
-    ensures { IsEither (answer_of result) (stopped_answer file.now options bytes.items (stop_of ending) (counts_of ending)) (answer 8 out_of_memory bytes.items (counts_of ending)) }
+fn stop(alloc: Global, file: &str, options: Options, bytes: Vec<u8>, ending: CheckedEnding) -> Reply
+    ensures { IsEither (answer_of result) (stopped_answer file.now options bytes.items (stop_of ending) (counts_of ending))
+        (answer 8 out_of_memory bytes.items (counts_of ending)) }
 {
     let counts = counts_of(ending);
-    match said_of(alloc, file, options, ending) {
-        Ok(said) => Due {
+    match reply_to_end(alloc, file, options, ending) {
+        Ok(reply) => Reply {
             report: Report {
-                status: said.status,
+                status: reply.status,
                 object: bytes,
                 counts,
             },
-            message: said.message,
-            lines: said.lines,
+            message: reply.message,
+            lines: reply.lines,
         },
-        Err(_) => wanting(bytes, counts),
+        Err(_) => ran_out_of_memory(bytes, counts),
     }
 }
 
 // A file that is no object's.
-fn refuse(alloc: Global, file: &str, place: u64) -> Due
+fn refuse(alloc: Global, file: &str, place: u64) -> Reply
     ensures { IsEither (answer_of result) (bare 10 (bad_object_message file.now place)) (bare 8 out_of_memory) }
 {
     let text = message::bad_object(alloc, file, place);
@@ -154,12 +155,13 @@ fn run_object<I: Source, K: Sink>(
     object: Object,
     input: &mut I,
     out: &mut K,
-) -> Due
+) -> Reply
     requires file { IsFileOf bytes.items object }
     requires turns { options.turns ≤ 2 ^ 32 }
     requires input_faults { I.faults input.old < 2 ^ 64 - 2 }
     requires out_faults { K.faults out.old < 2 ^ 64 - 2 }
-    ensures { ExecutesFile file.now bytes.items options (streams (I.faults input.old) (K.faults out.old) (I.tells input.old) (K.tells out.old)) (streams (I.faults input.new) (K.faults out.new) (I.tells input.new) (K.tells out.new)) (answer_of result) }
+    ensures { FileMayAnswer file.now bytes.items options (streams_seen I.Source K.Sink input.old out.old)
+        (streams_seen I.Source K.Sink input.new out.new) (answer_of result) }
 {
     match exec(alloc, &object, input, out, options.turns) {
         Ok(ending) => stop(alloc, file, options, bytes, ending),
@@ -175,11 +177,12 @@ pub fn execute_file<I: Source, K: Sink>(
     bytes: Vec<u8>,
     input: &mut I,
     out: &mut K,
-) -> Due
+) -> Reply
     requires turns { options.turns ≤ 2 ^ 32 }
     requires input_faults { I.faults input.old < 2 ^ 64 - 2 }
     requires out_faults { K.faults out.old < 2 ^ 64 - 2 }
-    ensures { ExecutesFile file.now bytes.items options (streams (I.faults input.old) (K.faults out.old) (I.tells input.old) (K.tells out.old)) (streams (I.faults input.new) (K.faults out.new) (I.tells input.new) (K.tells out.new)) (answer_of result) }
+    ensures { FileMayAnswer file.now bytes.items options (streams_seen I.Source K.Sink input.old out.old)
+        (streams_seen I.Source K.Sink input.new out.new) (answer_of result) }
 {
     if bytes.len() > LONGEST_OBJECT as usize {
         return refuse(alloc, file, u64::from(LONGEST_OBJECT));

@@ -2,14 +2,14 @@
 //! where.
 #![tactic(auto)]
 
-mod due;
 mod execute;
 mod lower;
 mod message;
+mod reply;
 mod scope;
 mod top;
 
-pub use due::Report;
 pub use execute::LONGEST_OBJECT;
+pub use reply::Report;
 pub use scope::Scope;
 pub use top::hyloc;

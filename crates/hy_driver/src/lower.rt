@@ -2,7 +2,7 @@
 ghost use Rattle.std.specs.Prelude.{◌≡◌, ℕ, ◌∷◌, length, None, map, IfOk, IsTrue, All};
 ghost use Rattle.hy_base.specs.First.{IsFirst};
 ghost use Rattle.hy_tree.specs.Denotes.{program_of, decl_of, decl_kind_of, block_of, stmts_of, stmt_of, expr_of, links_of};
-ghost use Rattle.hy_meaning.specs.Forms.{first_of as first_operand, links_of as operators, target_of, main_of, stmts_of as stmts_of_decl, printed as is_printed, stmts_in};
+ghost use Rattle.hy_meaning.specs.Forms as forms;
 ghost use Rattle.hy_tree.specs.Findings.{Breaks as BreaksNames};
 ghost use Rattle.hy_tree.specs.Numbers.{number_program};
 ghost use Rattle.hy_tree.specs.Tree.{Program as Tree};
@@ -11,7 +11,8 @@ ghost use Rattle.hy_object.specs.Grammar.{IsCount, IsSpan};
 ghost use Rattle.hy_machine.specs.Built.{IsBuilt};
 ghost use Rattle.hy_driver.specs.Scopes.{with_name};
 ghost use Rattle.hy_driver.specs.Compiled.{IsCompiled};
-ghost use Rattle.hy_driver.specs.Lower.{Puts, variable as variable_at, place_of, own as own_place, load as loads, more_spans, sum_code, stmt_code, stmt_spans, block_code, block_spans, declared, declares, more_code, print_code, printed_links, store as store_at, IsSized};
+ghost use Rattle.hy_driver.specs.Lower.{Extends, variable, place_of, own, load, more_spans, sum_code, stmt_code, stmt_spans, block_code, block_spans};
+ghost use Rattle.hy_driver.specs.Lower.{declared, declares, more_code, print_code, printed_links, store, IsSized};
 
 use crate::scope::Scope;
 use hy_base::{NoMemory, Span};
@@ -74,14 +75,14 @@ pub fn lower(alloc: Global, tree: &Program) -> Result<Object, NoMemory>
 
 /// The statements of a block.
 fn block_stmts(block: &Block) -> &[Stmt]
-    ensures { stmts_of result.now ≡ stmts_in (block_of block.now) }
+    ensures { stmts_of result.now ≡ forms.stmts_in (block_of block.now) }
 {
     block.stmts.as_slice()
 }
 
 /// The statements of a declaration's body.
 fn body(decl: &DeclKind) -> &[Stmt]
-    ensures { stmts_of result.now ≡ stmts_of_decl (decl_kind_of decl.now) }
+    ensures { stmts_of result.now ≡ forms.stmts_of (decl_kind_of decl.now) }
 {
     match decl {
         DeclKind::Callable(c) => match c.variants.as_slice().first() {
@@ -96,7 +97,7 @@ fn body(decl: &DeclKind) -> &[Stmt]
 
 /// The statements of `main`, which is the one declaration.
 fn main_stmts(decls: &[Decl]) -> &[Stmt]
-    ensures { stmts_of result.now ≡ main_of (map decl_of decls.now) }
+    ensures { stmts_of result.now ≡ forms.main_of (map decl_of decls.now) }
 {
     match decls.first() {
         Some(decl) => body(&decl.kind),
@@ -107,7 +108,7 @@ fn main_stmts(decls: &[Decl]) -> &[Stmt]
 /// The first operand of a sum.
 #[tactic(auto, using(hy_tree::proofs::Equations::expr_variants))]
 fn first_of(value: &Expr) -> &Expr
-    ensures { expr_of result.now ≡ first_operand (expr_of value.now) }
+    ensures { expr_of result.now ≡ forms.first_of (expr_of value.now) }
 {
     match &value.kind {
         ExprKind::Chain(first, _links) => first.get(),
@@ -128,7 +129,7 @@ fn first_of(value: &Expr) -> &Expr
 /// The operators of a sum.
 #[tactic(auto, using(hy_tree::proofs::Equations::expr_variants))]
 fn links_in(value: &Expr) -> &[Link]
-    ensures { links_of result.now ≡ operators (expr_of value.now) }
+    ensures { links_of result.now ≡ forms.links_of (expr_of value.now) }
 {
     match &value.kind {
         ExprKind::Chain(_first, links) => links.as_slice(),
@@ -150,8 +151,8 @@ impl Draft {
     /// Puts the code of a block, whose variables are declared as it goes.
     fn block(&mut self, alloc: Global, scope: &mut Scope, stmts: &[Stmt]) -> Result<(), NoMemory>
         ensures scope { IfOk result (λ _. scope.new ≡ declared scope.old (stmts_of stmts.now)) }
-        ensures code { IfOk result (λ _. Puts self.old.code self.new.code (block_code scope.old (length self.old.spans) (stmts_of stmts.now))) }
-        ensures spans { IfOk result (λ _. Puts self.old.spans self.new.spans (block_spans (stmts_of stmts.now))) }
+        ensures code { IfOk result (λ _. Extends self.old.code self.new.code (block_code scope.old (length self.old.spans) (stmts_of stmts.now))) }
+        ensures spans { IfOk result (λ _. Extends self.old.spans self.new.spans (block_spans (stmts_of stmts.now))) }
     {
         for stmt in stmts {
             self.stmt(alloc, scope, stmt)?;
@@ -163,8 +164,8 @@ impl Draft {
     #[tactic(auto, using(hy_tree::proofs::Equations::stmt_variants))]
     fn stmt(&mut self, alloc: Global, scope: &mut Scope, stmt: &Stmt) -> Result<(), NoMemory>
         ensures scope { IfOk result (λ _. scope.new ≡ declares scope.old (stmt_of stmt.now)) }
-        ensures code { IfOk result (λ _. Puts self.old.code self.new.code (stmt_code scope.old (length self.old.spans) (stmt_of stmt.now))) }
-        ensures spans { IfOk result (λ _. Puts self.old.spans self.new.spans (stmt_spans (stmt_of stmt.now))) }
+        ensures code { IfOk result (λ _. Extends self.old.code self.new.code (stmt_code scope.old (length self.old.spans) (stmt_of stmt.now))) }
+        ensures spans { IfOk result (λ _. Extends self.old.spans self.new.spans (stmt_spans (stmt_of stmt.now))) }
     {
         match &stmt.kind {
             StmtKind::Binding(_introducer, name, _written, value) => {
@@ -192,8 +193,9 @@ impl Draft {
         value: &Expr,
     ) -> Result<(), NoMemory>
         ensures scope { IfOk result (λ _. scope.new ≡ with_name scope.old name.now) }
-        ensures code { IfOk result (λ _. Puts self.old.code self.new.code (λ rest. sum_code scope.old (length self.old.spans) (expr_of value.now) (store_at (length scope.old) ∷ rest))) }
-        ensures spans { IfOk result (λ _. Puts self.old.spans self.new.spans (more_spans (operators (expr_of value.now)))) }
+        ensures code { IfOk result (λ _.
+            Extends self.old.code self.new.code (λ rest. sum_code scope.old (length self.old.spans) (expr_of value.now) (store (length scope.old) ∷ rest))) }
+        ensures spans { IfOk result (λ _. Extends self.old.spans self.new.spans (more_spans (forms.links_of (expr_of value.now)))) }
     {
         self.sum(scope, value)?;
         let word = variable(scope.len())?;
@@ -204,8 +206,10 @@ impl Draft {
 
     /// Puts the code of `NAME = value`.
     fn assign(&mut self, scope: &Scope, target: &Expr, value: &Expr) -> Result<(), NoMemory>
-        ensures code { IfOk result (λ _. Puts self.old.code self.new.code (λ rest. sum_code scope.now (length self.old.spans) (expr_of value.now) (store_at (place_of scope.now (target_of (expr_of target.now))) ∷ rest))) }
-        ensures spans { IfOk result (λ _. Puts self.old.spans self.new.spans (more_spans (operators (expr_of value.now)))) }
+        ensures code { IfOk result (λ _.
+            Extends self.old.code self.new.code (λ rest.
+            sum_code scope.now (length self.old.spans) (expr_of value.now) (store (place_of scope.now (forms.target_of (expr_of target.now))) ∷ rest))) }
+        ensures spans { IfOk result (λ _. Extends self.old.spans self.new.spans (more_spans (forms.links_of (expr_of value.now)))) }
     {
         self.sum(scope, value)?;
         let word = word_of(scope, target_name(target))?;
@@ -215,8 +219,8 @@ impl Draft {
 
     /// Puts the code of `print(value)`.
     fn print(&mut self, scope: &Scope, e: &Expr) -> Result<(), NoMemory>
-        ensures code { IfOk result (λ _. Puts self.old.code self.new.code (print_code scope.now (length self.old.spans) (is_printed (expr_of e.now)))) }
-        ensures spans { IfOk result (λ _. Puts self.old.spans self.new.spans (more_spans (printed_links (is_printed (expr_of e.now))))) }
+        ensures code { IfOk result (λ _. Extends self.old.code self.new.code (print_code scope.now (length self.old.spans) (forms.printed (expr_of e.now)))) }
+        ensures spans { IfOk result (λ _. Extends self.old.spans self.new.spans (more_spans (printed_links (forms.printed (expr_of e.now))))) }
     {
         match printed(e) {
             Some(value) => {
@@ -234,8 +238,8 @@ impl Draft {
 
     /// Puts the code of a sum, which leaves it in the accumulator.
     fn sum(&mut self, scope: &Scope, value: &Expr) -> Result<(), NoMemory>
-        ensures code { IfOk result (λ _. Puts self.old.code self.new.code (sum_code scope.now (length self.old.spans) (expr_of value.now))) }
-        ensures spans { IfOk result (λ _. Puts self.old.spans self.new.spans (more_spans (operators (expr_of value.now)))) }
+        ensures code { IfOk result (λ _. Extends self.old.code self.new.code (sum_code scope.now (length self.old.spans) (expr_of value.now))) }
+        ensures spans { IfOk result (λ _. Extends self.old.spans self.new.spans (more_spans (forms.links_of (expr_of value.now)))) }
     {
         let first = load(scope, ACCUMULATOR, first_of(value))?;
         put(&mut self.code, first)?;
@@ -244,8 +248,8 @@ impl Draft {
 
     /// Puts the code that adds the right operands of operators to the accumulator.
     fn add(&mut self, scope: &Scope, links: &[Link]) -> Result<(), NoMemory>
-        ensures code { IfOk result (λ _. Puts self.old.code self.new.code (more_code scope.now (length self.old.spans) (links_of links.now))) }
-        ensures spans { IfOk result (λ _. Puts self.old.spans self.new.spans (more_spans (links_of links.now))) }
+        ensures code { IfOk result (λ _. Extends self.old.code self.new.code (more_code scope.now (length self.old.spans) (links_of links.now))) }
+        ensures spans { IfOk result (λ _. Extends self.old.spans self.new.spans (more_spans (links_of links.now))) }
     {
         for link in links {
             let next = load(scope, NEXT, &link.operand)?;
@@ -264,7 +268,7 @@ impl Draft {
 }
 
 fn put<T: Drop>(list: &mut Items<T>, item: T) -> Result<(), NoMemory>
-    ensures { IfOk result (λ _. Puts list.old list.new (λ rest. item ∷ rest)) }
+    ensures { IfOk result (λ _. Extends list.old list.new (λ rest. item ∷ rest)) }
 {
     list.push(item)?;
     Ok(())
@@ -273,7 +277,7 @@ fn put<T: Drop>(list: &mut Items<T>, item: T) -> Result<(), NoMemory>
 /// The instruction that brings an operand to a word. The forms that are not built bring 0.
 #[tactic(auto, using(hy_tree::proofs::Equations::expr_variants))]
 fn load(scope: &Scope, to: u32, operand: &Expr) -> Result<Instr, NoMemory>
-    ensures { IfOk result (λ instr. instr ≡ loads scope.now to (expr_of operand.now)) }
+    ensures { IfOk result (λ instr. instr ≡ load scope.now to (expr_of operand.now)) }
 {
     match &operand.kind {
         ExprKind::Name(name) => {
@@ -301,7 +305,7 @@ fn load(scope: &Scope, to: u32, operand: &Expr) -> Result<Instr, NoMemory>
 /// The name that is assigned to; none has no bytes.
 #[tactic(auto, using(hy_tree::proofs::Equations::expr_variants))]
 fn target_name(target: &Expr) -> &[u8]
-    ensures { result.now ≡ target_of (expr_of target.now) }
+    ensures { result.now ≡ forms.target_of (expr_of target.now) }
 {
     match &target.kind {
         ExprKind::Name(name) => name.text.as_slice(),
@@ -321,7 +325,7 @@ fn target_name(target: &Expr) -> &[u8]
 
 /// The instruction that brings the sum to a word.
 fn store(word: u32) -> Instr
-    ensures { result ≡ Instr.Move (own_place word) (own_place 0) 1 }
+    ensures { result ≡ Instr.Move (own word) (own 0) 1 }
 {
     Instr::Move {
         to: own(word),
@@ -332,7 +336,7 @@ fn store(word: u32) -> Instr
 
 /// A word of the own frame.
 fn own(word: u32) -> Place
-    ensures { result ≡ own_place word }
+    ensures { result ≡ own word }
 {
     Place {
         base: 0,
@@ -342,7 +346,7 @@ fn own(word: u32) -> Place
 
 /// The word of a variable. A name that is not declared, which an accepted tree does not use, would be the next one.
 fn word_of(scope: &Scope, name: &[u8]) -> Result<u32, NoMemory>
-    ensures { IfOk result (λ word. word ≡ variable_at (place_of scope.now name.now)) }
+    ensures { IfOk result (λ word. word ≡ variable (place_of scope.now name.now)) }
 {
     match scope.position(name) {
         Some(place) => variable(place),
@@ -350,9 +354,9 @@ fn word_of(scope: &Scope, name: &[u8]) -> Result<u32, NoMemory>
     }
 }
 
-/// The word of the variable that was declared behind so many others.
+/// The word of the variable that was declared after so many others.
 fn variable(place: usize) -> Result<u32, NoMemory>
-    ensures { IfOk result (λ word. word ≡ variable_at place) }
+    ensures { IfOk result (λ word. word ≡ variable place) }
 {
     let others = count(place)?;
     match others.checked_add(2) {

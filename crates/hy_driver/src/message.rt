@@ -1,7 +1,8 @@
 // The messages of the program, one line each. `docs/REFUSALS.md` has their texts.
 ghost use Rattle.std.specs.Prelude.{◌≡◌, ◌<◌, ◌++◌, IfOk, OnOk, string_bytes};
 ghost use Rattle.hy_driver.specs.Message.{bytes_of_message};
-ghost use Rattle.hy_driver.specs.Texts.{line_number, column_number, located, place_text, said, trap_text, refusal_message, trap_message, spent_message, object_trap_message, stuck_text, stuck_message, bad_object_message, count_line, report_lines};
+ghost use Rattle.hy_driver.specs.Texts.{line_number, column_number, located, place_text, worded, trap_text, refusal_message, trap_message};
+ghost use Rattle.hy_driver.specs.Texts.{spent_message, object_trap_message, stuck_text, stuck_message, bad_object_message, count_line, report_lines};
 
 use hy_base::{Counts, NoMemory, Rule, Span, TrapKind};
 use hy_object::{Kind, Pc};
@@ -12,7 +13,7 @@ use std::alloc::Global;
 pub enum Message {
     Silent,
     Fixed(&'static str),
-    Made(String),
+    Owned(String),
 }
 
 pub const USAGE: &str = "usage: hyloc run FILE | exec FILE [--turns N] [--report]\n";
@@ -33,7 +34,7 @@ impl Message {
         match self {
             Message::Silent => b"",
             Message::Fixed(text) => text.as_bytes(),
-            Message::Made(text) => text.as_bytes(),
+            Message::Owned(text) => text.as_bytes(),
         }
     }
 }
@@ -83,7 +84,7 @@ fn locate(
     word: &str,
     text: &str,
 ) -> Result<String, NoMemory>
-    ensures { IfOk result (λ message. string_bytes message ≡ located file.now bytes.now span (said word.now text.now)) }
+    ensures { IfOk result (λ message. string_bytes message ≡ located file.now bytes.now span (worded word.now text.now)) }
 {
     let (line, column) = position(bytes, span.from as usize);
     let place = place(alloc, line, column, span)?;

@@ -1,4 +1,4 @@
-//! Tests of the top call. They stand above its crate, so that it is proved once.
+//! Tests of the top call, of what no row of `tests/` shows. They stand above its crate, so that it is proved once.
 #![tactic(auto)]
 
 #[cfg(test)]

@@ -18,16 +18,20 @@ use Rattle.hy_grammar.specs.Stack as stack
 use Rattle.hy_grammar.specs.Stack.{Use, Operated, Valued}
 use Rattle.hy_expressions.proofs.OperandWalks.{operated_left, operated_ends}
 
-pub chain_ends : (total : ℕ) (e : T.Expr) (tiers : stack.Tiers) (u : Use) (old : List Token) (compares : Bool) (ahead : Option Infix) → ahead ≡ None → IsOperatorAhead compares old (Ok ahead)
+pub chain_ends : (total : ℕ) (e : T.Expr) (tiers : stack.Tiers) (u : Use) (old : List Token) (compares : Bool) (ahead : Option Infix) → ahead ≡ None
+    → IsOperatorAhead compares old (Ok ahead)
     → walk total (Operated e tiers u) old ≡ walk total (Valued (joined Disjunction e tiers) u) old
 chain_ends total e tiers u old compares (Some found) q h = let w : ⊥ = cc in absurd w
 chain_ends total e tiers u [] compares None q h = operated_left total e tiers u [] refl
 chain_ends total e tiers u (t ∷ ts) compares None q h = operated_ends total e tiers u t (t ∷ ts) ts refl (h t ts refl)
 
-compared : (tier : Option OpenChain) (operand : T.Expr) (operator : Operator) (token : Span) (tiers : stack.Tiers) → (tier ≡ None → ⊥) → compare (tier_of tier) operand operator token tiers ≡ None
+compared : (tier : Option OpenChain) (operand : T.Expr) (operator : Operator) (token : Span) (tiers : stack.Tiers) → (tier ≡ None → ⊥)
+    → compare (tier_of tier) operand operator token tiers ≡ None
 compared None operand operator token tiers h = absurd (h refl)
 compared (Some chain) operand operator token tiers h = refl
 
-pub second_comparison : (tiers : Tiers) (operand : T.Expr) (found : Infix) (token : Span) → found.level ≡ level.Comparison → (tiers.comparison ≡ None → ⊥) → operate (level_of found.level) operand found.operator token (tiers_of tiers) ≡ None
+pub second_comparison : (tiers : Tiers) (operand : T.Expr) (found : Infix) (token : Span) → found.level ≡ level.Comparison → (tiers.comparison ≡ None → ⊥)
+    → operate (level_of found.level) operand found.operator token (tiers_of tiers) ≡ None
 second_comparison tiers operand found token h g =
-    ap (λ l. operate (level_of l) operand found.operator token (tiers_of tiers)) h ∙ compared tiers.comparison (joined Addition operand (tiers_of tiers)) found.operator token (tiers_of tiers) g
+    ap (λ l. operate (level_of l) operand found.operator token (tiers_of tiers)) h
+    ∙ compared tiers.comparison (joined Addition operand (tiers_of tiers)) found.operator token (tiers_of tiers) g

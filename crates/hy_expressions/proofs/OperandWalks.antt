@@ -14,14 +14,17 @@ use Rattle.hy_grammar.specs.Nodes as node
 use Rattle.hy_grammar.specs.OperandSteps.{no_prefixes, beginning, at_operand}
 use Rattle.hy_expressions.specs.ReadsExpressions.{PostfixSpot, before_postfix}
 use Rattle.hy_grammar.specs.Stack as stack
-use Rattle.hy_grammar.specs.Stack.{Prefixes, Tiers, Spot, State, Use, InExpr, NoChain, OpenChain, ForElement, ForCondition, Operand, Postfixed, Operated, Valued, PartsOpened, ArrayWord, depth, depth_spot, depth_use}
+use Rattle.hy_grammar.specs.Stack.{Prefixes, Tiers, Spot, State, Use, InExpr, NoChain, OpenChain, ForElement, ForCondition, Operand, Postfixed, Operated}
+use Rattle.hy_grammar.specs.Stack.{Valued, PartsOpened, ArrayWord, depth, depth_spot, depth_use}
 use Rattle.hy_phrases.specs.Wanted.{Sees}
 use Rattle.hy_phrases.proofs.Walks.{fits, over, deep, halts, lacks, alike, Follows}
 
 -- PRIMARY EXPRESSIONS
 
-no_primary : (found : TokenKind) (t : Span) (spot : Spot) → (before_postfix found ≡ true → at_operand found t spot ≡ None) → ((n : ℤ) → found ≡ k.Number n → ⊥) → (found ≡ k.True → ⊥) → (found ≡ k.False → ⊥) → (found ≡ k.SelfValue → ⊥)
-    → ((text : List ℕ) → found ≡ k.Name text → ⊥) → (found ≡ k.Array → ⊥) → (found ≡ k.LeftParen → ⊥) → (found ≡ k.LeftBracket → ⊥) → (found ≡ k.If → ⊥) → at_operand found t spot ≡ None
+no_primary : (found : TokenKind) (t : Span) (spot : Spot) → (before_postfix found ≡ true → at_operand found t spot ≡ None)
+    → ((n : ℤ) → found ≡ k.Number n → ⊥) → (found ≡ k.True → ⊥) → (found ≡ k.False → ⊥) → (found ≡ k.SelfValue → ⊥)
+    → ((text : List ℕ) → found ≡ k.Name text → ⊥) → (found ≡ k.Array → ⊥) → (found ≡ k.LeftParen → ⊥) → (found ≡ k.LeftBracket → ⊥) → (found ≡ k.If → ⊥)
+    → at_operand found t spot ≡ None
 no_primary (k.Number n) t spot x a b c d e f g h i = absurd (a n refl)
 no_primary k.True t spot x a b c d e f g h i = absurd (b refl)
 no_primary k.False t spot x a b c d e f g h i = absurd (c refl)
@@ -41,47 +44,64 @@ unfolding finish
 no_operand_left total spot old h = lacks total (Operand spot) old h (λ place. refl)
 
 module _ (total : ℕ) (spot : Spot) (t : Token) (old new : List Token) (front : old ≡ t ∷ new) where
-  pub no_primary_there : (before_postfix t.kind ≡ true → at_operand t.kind t.span spot ≡ None) → ((n : ℤ) → t.kind ≡ k.Number n → ⊥) → (t.kind ≡ k.True → ⊥) → (t.kind ≡ k.False → ⊥) → (t.kind ≡ k.SelfValue → ⊥)
-      → ((text : List ℕ) → t.kind ≡ k.Name text → ⊥) → (t.kind ≡ k.Array → ⊥) → (t.kind ≡ k.LeftParen → ⊥) → (t.kind ≡ k.LeftBracket → ⊥) → (t.kind ≡ k.If → ⊥) → walk total (Operand spot) old ≡ Err (Unexpected (length old))
+  pub no_primary_there : (before_postfix t.kind ≡ true → at_operand t.kind t.span spot ≡ None) → ((n : ℤ) → t.kind ≡ k.Number n → ⊥) → (t.kind ≡ k.True → ⊥)
+      → (t.kind ≡ k.False → ⊥) → (t.kind ≡ k.SelfValue → ⊥)
+      → ((text : List ℕ) → t.kind ≡ k.Name text → ⊥) → (t.kind ≡ k.Array → ⊥) → (t.kind ≡ k.LeftParen → ⊥) → (t.kind ≡ k.LeftBracket → ⊥)
+      → (t.kind ≡ k.If → ⊥) → walk total (Operand spot) old ≡ Err (Unexpected (length old))
   unfolding step
   no_primary_there x a b c d e f g h i = halts total (Operand spot) t old new front (λ place. no_primary t.kind t.span spot x a b c d e f g h i)
 
   module _ (levels : ℕ) (l : levels + depth_spot spot ≡ most_levels) where
     pub over_number : (n : ℤ) → t.kind ≡ k.Number n → walk total (Operand spot) old ≡ walk total (Postfixed (node.number n t.span) [] 0 spot) new
     unfolding step
-    over_number n h = over total (Operand spot) (Postfixed (node.number n t.span) [] 0 spot) t old new front (λ place. rw (h, step) refl) (fits levels (depth_spot spot) l)
+    over_number n h =
+        over total (Operand spot) (Postfixed (node.number n t.span) [] 0 spot) t old new front (λ place. rw (h, step) refl)
+        (fits levels (depth_spot spot) l)
 
     pub over_true : t.kind ≡ k.True → walk total (Operand spot) old ≡ walk total (Postfixed (node.truth true t.span) [] 0 spot) new
     unfolding step
-    over_true h = over total (Operand spot) (Postfixed (node.truth true t.span) [] 0 spot) t old new front (λ place. rw (h, step) refl) (fits levels (depth_spot spot) l)
+    over_true h =
+        over total (Operand spot) (Postfixed (node.truth true t.span) [] 0 spot) t old new front (λ place. rw (h, step) refl)
+        (fits levels (depth_spot spot) l)
 
     pub over_false : t.kind ≡ k.False → walk total (Operand spot) old ≡ walk total (Postfixed (node.truth false t.span) [] 0 spot) new
     unfolding step
-    over_false h = over total (Operand spot) (Postfixed (node.truth false t.span) [] 0 spot) t old new front (λ place. rw (h, step) refl) (fits levels (depth_spot spot) l)
+    over_false h =
+        over total (Operand spot) (Postfixed (node.truth false t.span) [] 0 spot) t old new front (λ place. rw (h, step) refl)
+        (fits levels (depth_spot spot) l)
 
     pub over_self_value : t.kind ≡ k.SelfValue → walk total (Operand spot) old ≡ walk total (Postfixed (node.self_value t.span) [] 0 spot) new
     unfolding step
-    over_self_value h = over total (Operand spot) (Postfixed (node.self_value t.span) [] 0 spot) t old new front (λ place. rw (h, step) refl) (fits levels (depth_spot spot) l)
+    over_self_value h =
+        over total (Operand spot) (Postfixed (node.self_value t.span) [] 0 spot) t old new front (λ place. rw (h, step) refl)
+        (fits levels (depth_spot spot) l)
 
     pub over_named : (text : List ℕ) → t.kind ≡ k.Name text → walk total (Operand spot) old ≡ walk total (Postfixed (node.named text t.span) [] 0 spot) new
     unfolding step
-    over_named text h = over total (Operand spot) (Postfixed (node.named text t.span) [] 0 spot) t old new front (λ place. rw (h, step) refl) (fits levels (depth_spot spot) l)
+    over_named text h =
+        over total (Operand spot) (Postfixed (node.named text t.span) [] 0 spot) t old new front (λ place. rw (h, step) refl)
+        (fits levels (depth_spot spot) l)
 
     pub over_array : t.kind ≡ k.Array → walk total (Operand spot) old ≡ walk total (ArrayWord t.span spot) new
     unfolding step
     over_array h = over total (Operand spot) (ArrayWord t.span spot) t old new front (λ place. rw (h, step) refl) (fits levels (depth_spot spot) l)
 
-  pub over_paren : (inner : ℕ) → inner + (depth_spot spot + 1) ≡ most_levels → t.kind ≡ k.LeftParen → walk total (Operand spot) old ≡ walk total (PartsOpened t.span spot) new
+  pub over_paren : (inner : ℕ) → inner + (depth_spot spot + 1) ≡ most_levels → t.kind ≡ k.LeftParen
+      → walk total (Operand spot) old ≡ walk total (PartsOpened t.span spot) new
   unfolding step
   over_paren inner l h = over total (Operand spot) (PartsOpened t.span spot) t old new front (λ place. rw (h, step) refl) (fits inner (depth_spot spot + 1) l)
 
-  pub over_bracket : (inner : ℕ) → inner + (depth_spot spot + 1) ≡ most_levels → t.kind ≡ k.LeftBracket → walk total (Operand spot) old ≡ walk total (Operand (beginning (ForElement t.span [] spot))) new
+  pub over_bracket : (inner : ℕ) → inner + (depth_spot spot + 1) ≡ most_levels → t.kind ≡ k.LeftBracket
+      → walk total (Operand spot) old ≡ walk total (Operand (beginning (ForElement t.span [] spot))) new
   unfolding step
-  over_bracket inner l h = over total (Operand spot) (Operand (beginning (ForElement t.span [] spot))) t old new front (λ place. rw (h, step) refl) (omega arith)
+  over_bracket inner l h =
+      over total (Operand spot) (Operand (beginning (ForElement t.span [] spot))) t old new front (λ place. rw (h, step) refl) (omega arith)
 
-  pub over_if : (inner : ℕ) → inner + (depth_spot spot + 1) ≡ most_levels → t.kind ≡ k.If → walk total (Operand spot) old ≡ walk total (Operand (beginning (ForCondition t.span.from [] t.span spot))) new
+  pub over_if : (inner : ℕ) → inner + (depth_spot spot + 1) ≡ most_levels → t.kind ≡ k.If
+      → walk total (Operand spot) old ≡ walk total (Operand (beginning (ForCondition t.span.from [] t.span spot))) new
   unfolding step
-  over_if inner l h = over total (Operand spot) (Operand (beginning (ForCondition t.span.from [] t.span spot))) t old new front (λ place. rw (h, step) refl) (omega arith)
+  over_if inner l h =
+      over total (Operand spot) (Operand (beginning (ForCondition t.span.from [] t.span spot))) t old new front (λ place. rw (h, step) refl) (omega arith)
 
   module _ (full : depth_spot spot ≡ most_levels) where
     pub paren_too_deep : t.kind ≡ k.LeftParen → walk total (Operand spot) old ≡ Err (TooDeep (length old))
@@ -94,7 +114,8 @@ module _ (total : ℕ) (spot : Spot) (t : Token) (old new : List Token) (front :
 
     pub if_too_deep : t.kind ≡ k.If → walk total (Operand spot) old ≡ Err (TooDeep (length old))
     unfolding step
-    if_too_deep h = deep total (Operand spot) (Operand (beginning (ForCondition t.span.from [] t.span spot))) t old new front (λ place. rw (h, step) refl) (omega arith)
+    if_too_deep h =
+        deep total (Operand spot) (Operand (beginning (ForCondition t.span.from [] t.span spot))) t old new front (λ place. rw (h, step) refl) (omega arith)
 
 -- OPERATORS BEFORE AN OPERAND
 
@@ -105,33 +126,49 @@ abbrev pub one_more : List stack.Prefix → UnaryOperator → Span → List stac
 one_more operators operator token = operators ++ record { operator = operator; token = token } ∷ []
 
 module _ (operators : List stack.Prefix) (tiers : Tiers) (u : Use) where
-  prefix_step : (found : TokenKind) (t : Span) (operator : UnaryOperator) → prefix_of found ≡ Some operator → at_operand found t (InExpr (with_operators operators None) tiers u) ≡ Some (Operand (InExpr (with_operators (one_more operators operator t) None) tiers u))
-  prefix_step k.Minus t operator h = ap (λ o. elim o as (λ _. Option State) [ None ↦ None | Some op ↦ Some (Operand (InExpr (with_operators (one_more operators op t) None) tiers u)) ]) h
-  prefix_step k.Not t operator h = ap (λ o. elim o as (λ _. Option State) [ None ↦ None | Some op ↦ Some (Operand (InExpr (with_operators (one_more operators op t) None) tiers u)) ]) h
+  prefix_step : (found : TokenKind) (t : Span) (operator : UnaryOperator) → prefix_of found ≡ Some operator
+      → at_operand found t (InExpr (with_operators operators None) tiers u) ≡ Some
+      (Operand (InExpr (with_operators (one_more operators operator t) None) tiers u))
+  prefix_step k.Minus t operator h =
+      ap (λ o. elim o as (λ _. Option State) [ None ↦ None | Some op ↦ Some (Operand (InExpr (with_operators (one_more operators op t) None) tiers u)) ]) h
+  prefix_step k.Not t operator h =
+      ap (λ o. elim o as (λ _. Option State) [ None ↦ None | Some op ↦ Some (Operand (InExpr (with_operators (one_more operators op t) None) tiers u)) ]) h
   prefix_step _ t operator h = cc
 
   module _ (total : ℕ) (t : Token) (old new : List Token) (front : old ≡ t ∷ new) (operator : UnaryOperator) (is : prefix_of t.kind ≡ Some operator) where
-    pub over_prefix : (inner : ℕ) → inner + 1 + (depth_use u + length operators) ≡ most_levels → walk total (Operand (InExpr (with_operators operators None) tiers u)) old ≡ walk total (Operand (InExpr (with_operators (one_more operators operator t.span) None) tiers u)) new
+    pub over_prefix : (inner : ℕ) → inner + 1 + (depth_use u + length operators) ≡ most_levels
+        → walk total (Operand (InExpr (with_operators operators None) tiers u)) old ≡ walk total
+        (Operand (InExpr (with_operators (one_more operators operator t.span) None) tiers u)) new
     unfolding step
-    over_prefix inner l = over total (Operand (InExpr (with_operators operators None) tiers u)) (Operand (InExpr (with_operators (one_more operators operator t.span) None) tiers u)) t old new front
-        (λ place. prefix_step t.kind t.span operator is) (let n = length-append operators (record { operator = operator; token = t.span } ∷ []) in omega (arith, n, l))
+    over_prefix inner l =
+        over total (Operand (InExpr (with_operators operators None) tiers u))
+        (Operand (InExpr (with_operators (one_more operators operator t.span) None) tiers u)) t old new front
+        (λ place. prefix_step t.kind t.span operator is) (let n = length-append operators (record { operator = operator; token = t.span } ∷ []) in
+        omega (arith, n, l))
 
-    pub prefix_too_deep : depth_use u + length operators ≡ most_levels → walk total (Operand (InExpr (with_operators operators None) tiers u)) old ≡ Err (TooDeep (length old))
+    pub prefix_too_deep : depth_use u + length operators ≡ most_levels
+        → walk total (Operand (InExpr (with_operators operators None) tiers u)) old ≡ Err (TooDeep (length old))
     unfolding step
-    prefix_too_deep l = deep total (Operand (InExpr (with_operators operators None) tiers u)) (Operand (InExpr (with_operators (one_more operators operator t.span) None) tiers u)) t old new front
-        (λ place. prefix_step t.kind t.span operator is) (let n = length-append operators (record { operator = operator; token = t.span } ∷ []) in omega (arith, n, l))
+    prefix_too_deep l =
+        deep total (Operand (InExpr (with_operators operators None) tiers u))
+        (Operand (InExpr (with_operators (one_more operators operator t.span) None) tiers u)) t old new front
+        (λ place. prefix_step t.kind t.span operator is) (let n = length-append operators (record { operator = operator; token = t.span } ∷ []) in
+        omega (arith, n, l))
 
-  pub over_mark : Follows k.Ampersand (Operand (InExpr (with_operators operators None) tiers u)) (λ t. Operand (InExpr (with_operators operators (Some t)) tiers u))
+  pub over_mark : Follows k.Ampersand (Operand (InExpr (with_operators operators None) tiers u))
+      (λ t. Operand (InExpr (with_operators operators (Some t)) tiers u))
   unfolding step
   over_mark = record { takes = λ t place h. rw (h, step) refl }
 
-  pub marked_alone : (found : TokenKind) (t mark : Span) → before_postfix found ≡ true → at_operand found t (InExpr (with_operators operators (Some mark)) tiers u) ≡ None
+  pub marked_alone : (found : TokenKind) (t mark : Span) → before_postfix found ≡ true
+      → at_operand found t (InExpr (with_operators operators (Some mark)) tiers u) ≡ None
   marked_alone k.Minus t mark h = refl
   marked_alone k.Not t mark h = refl
   marked_alone k.Ampersand t mark h = refl
   marked_alone _ t mark h = cc
 
-  pub plain_alone : (found : TokenKind) (t : Span) → prefix_of found ≡ None → (found ≡ k.Ampersand → ⊥) → before_postfix found ≡ true → at_operand found t (InExpr (with_operators operators None) tiers u) ≡ None
+  pub plain_alone : (found : TokenKind) (t : Span) → prefix_of found ≡ None → (found ≡ k.Ampersand → ⊥) → before_postfix found ≡ true
+      → at_operand found t (InExpr (with_operators operators None) tiers u) ≡ None
   plain_alone k.Minus t h g b = cc
   plain_alone k.Not t h g b = cc
   plain_alone k.Ampersand t h g b = absurd (g refl)
@@ -144,29 +181,40 @@ module _ (operators : List stack.Prefix) (tiers : Tiers) (u : Use) where
   sees_it kind [] more t h g e = let w : ⊥ = cc in w
   sees_it kind (x ∷ old) more t h g e = let same : x ≡ t = cc in g (ap (λ y. y.kind) same ∙ e)
 
-  abbrev pub plain_spot : (old : List Token) → ((t : Token) (more : List Token) → old ≡ t ∷ more → prefix_of t.kind ≡ None) → (Sees k.Ampersand old → ⊥) → PostfixSpot old
-  plain_spot old h g = record { spot = InExpr (with_operators operators None) tiers u; begins = λ t more front b. plain_alone t.kind t.span (h t more front) (sees_it k.Ampersand old more t front g) b }
+  abbrev pub plain_spot : (old : List Token) → ((t : Token) (more : List Token) → old ≡ t ∷ more → prefix_of t.kind ≡ None) → (Sees k.Ampersand old → ⊥)
+      → PostfixSpot old
+  plain_spot old h g = record {
+    spot = InExpr (with_operators operators None) tiers u;
+    begins =
+        λ t more front b. plain_alone t.kind t.span (h t more front) (sees_it k.Ampersand old more t front g) b;
+  }
 
 -- OPERATORS BETWEEN OPERANDS
 
 module _ (total : ℕ) (e : T.Expr) (tiers : Tiers) (u : Use) where
   pub operated_left : (old : List Token) → old ≡ [] → walk total (Operated e tiers u) old ≡ walk total (Valued (joined Disjunction e tiers) u) old
   unfolding finish
-  operated_left old h = lacks total (Operated e tiers u) old h (λ place. refl) ∙ sym (lacks total (Valued (joined Disjunction e tiers) u) old h (λ place. refl))
+  operated_left old h = lacks total (Operated e tiers u) old h (λ place. refl)
+      ∙ sym (lacks total (Valued (joined Disjunction e tiers) u) old h (λ place. refl))
 
   module _ (t : Token) (old new : List Token) (front : old ≡ t ∷ new) where
     pub operated_ends : infix_of t.kind ≡ None → walk total (Operated e tiers u) old ≡ walk total (Valued (joined Disjunction e tiers) u) old
     unfolding step
     operated_ends h = alike total (Operated e tiers u) (Valued (joined Disjunction e tiers) u) t old new front (λ place. ap (λ o. at_infix o e tiers u t) h)
 
-    pub over_operator : (found : Infix) (made : Tiers) (levels : ℕ) → infix_of t.kind ≡ Some found → operate found.level e found.operator t.span tiers ≡ Some made → levels + depth_use u ≡ most_levels
+    pub over_operator : (found : Infix) (made : Tiers) (levels : ℕ) → infix_of t.kind ≡ Some found
+        → operate found.level e found.operator t.span tiers ≡ Some made → levels + depth_use u ≡ most_levels
         → walk total (Operated e tiers u) old ≡ walk total (Operand (InExpr no_prefixes made u)) new
     unfolding step
-    over_operator found made levels h g l = over total (Operated e tiers u) (Operand (InExpr no_prefixes made u)) t old new front (λ place. ap (λ o. at_infix o e tiers u t) h ∙ ap (λ o. next_operand o u) g) (omega (arith, l))
+    over_operator found made levels h g l =
+        over total (Operated e tiers u) (Operand (InExpr no_prefixes made u)) t old new front (λ place. ap (λ o. at_infix o e tiers u t) h
+        ∙ ap (λ o. next_operand o u) g) (omega (arith, l))
 
-    pub no_second_comparison : (found : Infix) → infix_of t.kind ≡ Some found → operate found.level e found.operator t.span tiers ≡ None → walk total (Operated e tiers u) old ≡ Err (Unexpected (length old))
+    pub no_second_comparison : (found : Infix) → infix_of t.kind ≡ Some found → operate found.level e found.operator t.span tiers ≡ None
+        → walk total (Operated e tiers u) old ≡ Err (Unexpected (length old))
     unfolding step
-    no_second_comparison found h g = halts total (Operated e tiers u) t old new front (λ place. ap (λ o. at_infix o e tiers u t) h ∙ ap (λ o. next_operand o u) g)
+    no_second_comparison found h g = halts total (Operated e tiers u) t old new front (λ place. ap (λ o. at_infix o e tiers u t) h
+        ∙ ap (λ o. next_operand o u) g)
 
 pub one_front : (old : List Token) (one other : Token) (more behind : List Token) → old ≡ one ∷ more → old ≡ other ∷ behind → one ≡ other
 one_front old one other more behind h g = cc

@@ -6,7 +6,8 @@ use Rattle.hy_grammar.specs.ExprSteps.{prefixed}
 use Rattle.hy_grammar.specs.Nodes as node
 use Rattle.hy_expressions.specs.ReadsExpressions.{prefix_at}
 
-pub prefixed_last : (front : List Prefix) (p : Prefix) (e : T.Expr) → prefixed (map prefix_at (front ++ p ∷ [])) e ≡ prefixed (map prefix_at front) (node.unary p.operator p.token e)
+pub prefixed_last : (front : List Prefix) (p : Prefix) (e : T.Expr)
+    → prefixed (map prefix_at (front ++ p ∷ [])) e ≡ prefixed (map prefix_at front) (node.unary p.operator p.token e)
 unfolding prefixed
 prefixed_last [] p e = refl
 prefixed_last (q ∷ more) p e = ap (node.unary q.operator q.token) (prefixed_last more p e)

@@ -33,7 +33,8 @@ use Rattle.hy_grammar.specs.OperandSteps.{no_prefixes, beginning, at_operand}
 use Rattle.hy_phrases.specs.Reads.{Reads}
 use Rattle.hy_grammar.specs.Stack as stack
 use Rattle.hy_phrases.specs.Wanted.{tail}
-use Rattle.hy_grammar.specs.Stack.{Callee, Spot, InExpr, State, Use, ForElement, ForArgument, ForCondition, Operand, Postfixed, Operated, Valued, Dotted, PartsOpened, ArgumentsOpened, ArgumentWanted, ArgumentsRead, ArrayWord, ChoiceElse}
+use Rattle.hy_grammar.specs.Stack.{Callee, Spot, InExpr, State, Use, ForElement, ForArgument, ForCondition, Operand, Postfixed, Operated, Valued, Dotted}
+use Rattle.hy_grammar.specs.Stack.{PartsOpened, ArgumentsOpened, ArgumentWanted, ArgumentsRead, ArrayWord, ChoiceElse}
 
 abbrev pub IsExpression : ℕ → List Token → Result Expr Stop → List Token → Type 0
 IsExpression levels = Reads {X = Use} levels expr_of (λ u. Operand (beginning u)) Valued
@@ -58,16 +59,17 @@ pub record IsOperator (old : List Token) (found : Infix) : Type 0 where
   pub front : old ≡ token ∷ tail old
   pub is : infix_of token.kind ≡ infix_at (Some found)
 
--- the operator between operands that comes next, if one does; a second comparison cannot stand behind one
+-- the operator between operands that comes next, if one does; a second comparison cannot stand after one
 abbrev pub IsOperatorAhead : Bool → List Token → Result (Option Infix) Stop → Type 0
 IsOperatorAhead compares old (Ok None) = (t : Token) (more : List Token) → old ≡ t ∷ more → infix_of t.kind ≡ None
 IsOperatorAhead compares old (Ok (Some found)) = IsOperator old found × (found.level ≡ level.Comparison → compares ≡ false)
-IsOperatorAhead compares old (Err e) = (found : Infix) × IsOperator old found × (found.level ≡ level.Comparison) × (compares ≡ true) × (e ≡ stop.Unexpected (length old))
+IsOperatorAhead compares old (Err e) = (found : Infix) × IsOperator old found × (found.level ≡ level.Comparison) × (compares ≡ true)
+    × (e ≡ stop.Unexpected (length old))
 
 abbrev pub operated_of : Tiers × Expr → stack.Tiers × T.Expr
 operated_of x = (tiers_of x.0, expr_of x.1)
 
--- an operator with the operand behind it, in an expression with these chains
+-- an operator with the operand after it, in an expression with these chains
 abbrev pub IsOperated : ℕ → T.Expr → stack.Tiers → List Token → Result (Tiers × Expr) Stop → List Token → Type 0
 IsOperated levels operand tiers = Reads {X = Use} levels operated_of (λ u. Operated operand tiers u) (λ r u. Operated r.1 r.0 u)
 
@@ -93,15 +95,15 @@ IsPostfix levels old = Reads {X = PostfixSpot old} levels expr_of (λ x. Operand
 abbrev pub IsPrimary : ℕ → List Token → Result Expr Stop → List Token → Type 0
 IsPrimary levels old = Reads {X = PostfixSpot old} levels expr_of (λ x. Operand x.spot) (λ e x. Postfixed e [] 0 x.spot) old
 
--- `Array<type>()`, behind its word
+-- `Array<type>()`, after its word
 abbrev pub IsEmptyArray : ℕ → Span → List Token → Result Expr Stop → List Token → Type 0
 IsEmptyArray levels word = Reads {X = Spot} levels expr_of (ArrayWord word) (λ e spot. Postfixed e [] 0 spot)
 
--- expressions in parentheses, behind the `(`
+-- expressions in parentheses, after the `(`
 abbrev pub IsParts : ℕ → Span → List Token → Result Expr Stop → List Token → Type 0
 IsParts levels bracket = Reads {X = Spot} levels expr_of (PartsOpened bracket) (λ e spot. Postfixed e [] 0 spot)
 
--- expressions in brackets, behind the `[`
+-- expressions in brackets, after the `[`
 abbrev pub IsArray : ℕ → Span → List Token → Result Expr Stop → List Token → Type 0
 IsArray levels bracket = Reads {X = Spot} levels expr_of (λ spot. Operand (beginning (ForElement bracket [] spot))) (λ e spot. Postfixed e [] 0 spot)
 
@@ -113,17 +115,19 @@ pub record ChoiceSpot : Type 0 where
   pub choices : List T.Choice
   pub spot : Spot
 
--- `if expr { expr } else`, behind the `if`
+-- `if expr { expr } else`, after the `if`
 abbrev pub IsChoice : ℕ → Span → List Token → Result Choice Stop → List Token → Type 0
-IsChoice levels word = Reads {X = ChoiceSpot} levels choice_of (λ x. Operand (beginning (ForCondition x.from x.choices word x.spot))) (λ c x. ChoiceElse x.from (x.choices ++ c ∷ []) x.spot)
+IsChoice levels word =
+    Reads {X = ChoiceSpot} levels choice_of (λ x. Operand (beginning (ForCondition x.from x.choices word x.spot)))
+    (λ c x. ChoiceElse x.from (x.choices ++ c ∷ []) x.spot)
 
--- an `if` that is an expression, behind its first word
+-- an `if` that is an expression, after its first word
 abbrev pub IsChoices : ℕ → Span → List Token → Result Expr Stop → List Token → Type 0
 IsChoices levels word = Reads {X = Spot} levels expr_of (λ spot. Operand (beginning (ForCondition word.from [] word spot))) (λ e spot. Postfixed e [] 0 spot)
 
 -- STEPS
 
--- where a step stands: behind the steps before, the last of which ends there
+-- where a step stands: after the steps before, the last of which ends there
 pub record StepSpot : Type 0 where
   pub steps : List T.Step
   pub to : ℕ
@@ -133,7 +137,7 @@ abbrev pub after_step : T.Expr → Option T.Step → StepSpot → State
 after_step primary None x = operated (node.postfix primary x.steps x.to) x.spot
 after_step primary (Some step) x = Postfixed primary (x.steps ++ step ∷ []) (T.at_step step).span.to x.spot
 
--- the next step behind a primary expression, or none where it ends
+-- the next step after a primary expression, or none where it ends
 abbrev pub IsNextStep : ℕ → T.Expr → List Token → Result (Option Step) Stop → List Token → Type 0
 IsNextStep levels primary = Reads {X = StepSpot} levels (option_map step_of) (λ x. Postfixed primary x.steps x.to x.spot) (after_step primary)
 
@@ -142,9 +146,10 @@ abbrev pub Shrinks : {A : Type 0} → Result (Option A) Stop → ℕ → ℕ →
 Shrinks (Ok (Some one)) old new = new < old
 Shrinks _ old new = Unit {0}
 
--- a step behind its `.`
+-- a step after its `.`
 abbrev pub IsDotted : T.Expr → List Token → Result Step Stop → List Token → Type 0
-IsDotted primary old result new = (levels : ℕ) → Reads {X = StepSpot} levels step_of (λ x. Dotted primary x.steps x.spot) (λ s x. after_step primary (Some s) x) old result new
+IsDotted primary old result new = (levels : ℕ)
+    → Reads {X = StepSpot} levels step_of (λ x. Dotted primary x.steps x.spot) (λ s x. after_step primary (Some s) x) old result new
 
 abbrev pub brackets_of : Brackets → stack.Brackets
 brackets_of b.Round = stack.Round
@@ -158,26 +163,34 @@ abbrev pub closing : Brackets → Mark
 closing b.Round = mark.RightParen
 closing b.Square = mark.RightBracket
 
--- a step behind its `(` or `[`
+-- a step after its `(` or `[`
 abbrev pub IsArguments : ℕ → T.Expr → Brackets → List Token → Result Step Stop → List Token → Type 0
-IsArguments levels primary brackets = Reads {X = StepSpot} levels step_of (λ x. ArgumentsOpened (callee primary x.steps (brackets_of brackets)) x.spot) (λ s x. after_step primary (Some s) x)
+IsArguments levels primary brackets =
+    Reads {X = StepSpot} levels step_of (λ x. ArgumentsOpened (callee primary x.steps (brackets_of brackets)) x.spot) (λ s x. after_step primary (Some s) x)
 
--- where an argument stands: behind the arguments before
+-- where an argument stands: after the arguments before
 pub record ArgumentSpot : Type 0 where
   pub callee : Callee
   pub args : List T.Arg
   pub spot : Spot
 
 abbrev pub IsArgument : ℕ → List Token → Result Arg Stop → List Token → Type 0
-IsArgument levels = Reads {X = ArgumentSpot} levels arg_of (λ x. ArgumentWanted x.callee x.args x.spot) (λ a x. ArgumentsRead x.callee (x.args ++ a ∷ []) x.spot)
+IsArgument levels =
+    Reads {X = ArgumentSpot} levels arg_of (λ x. ArgumentWanted x.callee x.args x.spot) (λ a x. ArgumentsRead x.callee (x.args ++ a ∷ []) x.spot)
 
 -- the label of an argument, if it has one
 abbrev pub IsLabel : List Token → Result (Option (List ℕ)) Stop → List Token → Type 0
-IsLabel old result new = (levels : ℕ) → Reads {X = ArgumentSpot} levels (λ label. label) (λ x. ArgumentWanted x.callee x.args x.spot) (λ label x. Operand (beginning (ForArgument x.callee x.args label x.spot))) old result new
+IsLabel old result new = (levels : ℕ)
+    → Reads {X = ArgumentSpot} levels (λ label. label) (λ x. ArgumentWanted x.callee x.args x.spot)
+    (λ label x. Operand (beginning (ForArgument x.callee x.args label x.spot))) old result new
 
 -- A function value that reads an expression where fewer levels than these are left.
-pub record NestsExpressions (levels : ℕ) (pre : Global → MutBor Tokens → ℕ → Type 0) (post : Global → MutBor Tokens → ℕ → Result Expr Stop → MutBor Tokens → Type 0) : Type 0 where
+pub record NestsExpressions (levels : ℕ) (pre : Global → MutBor Tokens → ℕ → Type 0) (post : Global → MutBor Tokens → ℕ → Result Expr Stop → MutBor Tokens
+    → Type 0) : Type 0 where
   pub callable : (alloc : Global) (old : MutBor Tokens) (inner : ℕ) → inner < levels → pre alloc old inner
-  pub reads : (alloc : Global) (old new : MutBor Tokens) (inner : ℕ) (r : Result Expr Stop) → inner < levels → post alloc old inner r new → IsExpression inner old.now.rest.now r new.now.rest.now
-  pub within : (alloc : Global) (old new : MutBor Tokens) (inner : ℕ) (r : Result Expr Stop) → inner < levels → post alloc old inner r new → length new.now.rest.now ≤ length old.now.rest.now
-  pub progress : (alloc : Global) (old new : MutBor Tokens) (inner : ℕ) (r : Result Expr Stop) → inner < levels → post alloc old inner r new → OnOk r (length new.now.rest.now < length old.now.rest.now)
+  pub reads : (alloc : Global) (old new : MutBor Tokens) (inner : ℕ) (r : Result Expr Stop) → inner < levels → post alloc old inner r new
+      → IsExpression inner old.now.rest.now r new.now.rest.now
+  pub within : (alloc : Global) (old new : MutBor Tokens) (inner : ℕ) (r : Result Expr Stop) → inner < levels → post alloc old inner r new
+      → length new.now.rest.now ≤ length old.now.rest.now
+  pub progress : (alloc : Global) (old new : MutBor Tokens) (inner : ℕ) (r : Result Expr Stop) → inner < levels → post alloc old inner r new
+      → OnOk r (length new.now.rest.now < length old.now.rest.now)

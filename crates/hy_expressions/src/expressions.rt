@@ -4,7 +4,9 @@ ghost use Rattle.hy_tree.specs.Denotes.{expr_of, step_of, arg_of};
 ghost use Rattle.hy_grammar.specs.ExprSteps as steps;
 ghost use Rattle.hy_phrases.specs.OpenChains.{tiers_of};
 ghost use Rattle.hy_phrases.specs.Wanted.{tail};
-ghost use Rattle.hy_expressions.specs.ReadsExpressions.{IsExpression, IsOperand, IsPostfix, IsPrimary, IsEmptyArray, IsParts, IsArray, IsChoice, IsChoices, IsNextStep, IsDotted, IsArguments, IsArgument, IsLabel, NestsExpressions, IsPrefixAhead, IsOperator, IsOperatorAhead, IsOperated, IsOpening, Shrinks, brackets_of, closing, prefix_at};
+ghost use Rattle.hy_expressions.specs.ReadsExpressions.{IsExpression, IsOperand, IsPostfix, IsPrimary, IsEmptyArray, IsParts, IsArray, IsChoice, IsChoices};
+ghost use Rattle.hy_expressions.specs.ReadsExpressions.{IsNextStep, IsDotted, IsArguments, IsArgument, IsLabel, NestsExpressions, IsPrefixAhead};
+ghost use Rattle.hy_expressions.specs.ReadsExpressions.{IsOperator, IsOperatorAhead, IsOperated, IsOpening, Shrinks, brackets_of, closing, prefix_at};
 
 use hy_base::{Span, Text};
 use hy_lexer::{Token, TokenKind};
@@ -87,7 +89,7 @@ impl<F: Fn(Global, &mut Tokens<'_>, usize) -> Result<Expr, Stop>> Expressions<F>
         }
     }
 
-    /// The operator that comes next, with the operand behind it.
+    /// The operator that comes next, with the operand after it.
     fn operate(
         &self,
         tokens: &mut Tokens<'_>,
@@ -132,7 +134,7 @@ impl<F: Fn(Global, &mut Tokens<'_>, usize) -> Result<Expr, Stop>> Expressions<F>
         Ok(with_prefixes(self.alloc, prefixes, mark, operand)?)
     }
 
-    /// A primary expression with the steps behind it.
+    /// A primary expression with the steps after it.
     fn postfix(&self, tokens: &mut Tokens<'_>, levels: usize) -> Result<Expr, Stop>
         requires fewer { levels ≤ self.now.levels }
         requires nests { NestsExpressions self.now.levels (F.pre self.now.nested) (F.post self.now.nested) }
@@ -204,7 +206,7 @@ impl<F: Fn(Global, &mut Tokens<'_>, usize) -> Result<Expr, Stop>> Expressions<F>
         }
     }
 
-    /// `Array<type>()`, behind its word.
+    /// `Array<type>()`, after its word.
     fn empty_array(&self, tokens: &mut Tokens<'_>, word: Span, levels: usize) -> Result<Expr, Stop>
         ensures reads { IsEmptyArray levels word tokens.old.rest.now result tokens.new.rest.now }
         ensures within { length tokens.new.rest.now ≤ length tokens.old.rest.now }
@@ -217,7 +219,7 @@ impl<F: Fn(Global, &mut Tokens<'_>, usize) -> Result<Expr, Stop>> Expressions<F>
         Ok(empty_array(word, element, close))
     }
 
-    /// Expressions in parentheses, behind the `(`.
+    /// Expressions in parentheses, after the `(`.
     fn parts(&self, tokens: &mut Tokens<'_>, bracket: Span, levels: usize) -> Result<Expr, Stop>
         requires fewer { levels < self.now.levels }
         requires nests { NestsExpressions self.now.levels (F.pre self.now.nested) (F.post self.now.nested) }
@@ -236,7 +238,7 @@ impl<F: Fn(Global, &mut Tokens<'_>, usize) -> Result<Expr, Stop>> Expressions<F>
         Ok(parts(bracket, made, close))
     }
 
-    /// Expressions in brackets, behind the `[`.
+    /// Expressions in brackets, after the `[`.
     fn array(&self, tokens: &mut Tokens<'_>, bracket: Span, levels: usize) -> Result<Expr, Stop>
         requires fewer { levels < self.now.levels }
         requires nests { NestsExpressions self.now.levels (F.pre self.now.nested) (F.post self.now.nested) }
@@ -252,7 +254,7 @@ impl<F: Fn(Global, &mut Tokens<'_>, usize) -> Result<Expr, Stop>> Expressions<F>
         Ok(array(bracket, made, close))
     }
 
-    /// `if expr { expr } else`, behind the `if`.
+    /// `if expr { expr } else`, after the `if`.
     fn choice(&self, tokens: &mut Tokens<'_>, word: Span, levels: usize) -> Result<Choice, Stop>
         requires fewer { levels < self.now.levels }
         requires nests { NestsExpressions self.now.levels (F.pre self.now.nested) (F.post self.now.nested) }
@@ -271,7 +273,7 @@ impl<F: Fn(Global, &mut Tokens<'_>, usize) -> Result<Expr, Stop>> Expressions<F>
         })
     }
 
-    /// An `if` with a value, behind its first word.
+    /// An `if` with a value, after its first word.
     fn choices(&self, tokens: &mut Tokens<'_>, word: Span, levels: usize) -> Result<Expr, Stop>
         requires fewer { levels < self.now.levels }
         requires nests { NestsExpressions self.now.levels (F.pre self.now.nested) (F.post self.now.nested) }
@@ -289,7 +291,7 @@ impl<F: Fn(Global, &mut Tokens<'_>, usize) -> Result<Expr, Stop>> Expressions<F>
         Ok(if_else(self.alloc, word, made, otherwise, close)?)
     }
 
-    /// The next step behind a primary expression, if one comes.
+    /// The next step after a primary expression, if one comes.
     fn step(
         &self,
         tokens: &mut Tokens<'_>,
@@ -343,7 +345,7 @@ impl<F: Fn(Global, &mut Tokens<'_>, usize) -> Result<Expr, Stop>> Expressions<F>
         Ok(Some(self.arguments(tokens, inner, primary, brackets)?))
     }
 
-    /// A step of arguments, behind its bracket.
+    /// A step of arguments, after its bracket.
     fn arguments(
         &self,
         tokens: &mut Tokens<'_>,
@@ -388,7 +390,7 @@ fn without<A: Drop>(_read: A, stop: Stop) -> Stop
     stop
 }
 
-/// The operator that comes next between operands. A second comparison cannot stand behind one.
+/// The operator that comes next between operands. A second comparison cannot stand after one.
 fn operator_ahead(tokens: &Tokens<'_>, compares: bool) -> Result<Option<Infix>, Stop>
     ensures { IsOperatorAhead compares tokens.now.rest.now result }
 {
@@ -434,7 +436,7 @@ fn with_prefixes(
     Ok(made)
 }
 
-/// The label of an argument, if it has one: a name with a `:` behind it.
+/// The label of an argument, if it has one: a name with a `:` after it.
 fn label(alloc: Global, tokens: &mut Tokens<'_>) -> Result<Option<Text>, Stop>
     ensures reads { IsLabel tokens.old.rest.now result tokens.new.rest.now }
     ensures within { length tokens.new.rest.now ≤ length tokens.old.rest.now }
@@ -455,7 +457,7 @@ fn label(alloc: Global, tokens: &mut Tokens<'_>) -> Result<Option<Text>, Stop>
     Ok(Some(copy_text(alloc, text)?))
 }
 
-/// A step behind its `.`.
+/// A step after its `.`.
 fn dotted(alloc: Global, tokens: &mut Tokens<'_>, primary: &Expr) -> Result<Step, Stop>
     ensures reads { IsDotted (expr_of primary.now) tokens.old.rest.now result tokens.new.rest.now }
     ensures within { length tokens.new.rest.now ≤ length tokens.old.rest.now }
@@ -476,7 +478,7 @@ fn dotted(alloc: Global, tokens: &mut Tokens<'_>, primary: &Expr) -> Result<Step
     }
 }
 
-/// Arguments behind a primary expression.
+/// Arguments after a primary expression.
 fn arguments_step(primary: &Expr, brackets: Brackets, args: Items<Arg>, close: Span) -> Step
     ensures { step_of result ≡ steps.arguments_step (brackets_of brackets) (expr_of primary.now) (map arg_of args) close }
 {

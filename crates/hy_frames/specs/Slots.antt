@@ -11,7 +11,13 @@ order =
     record {
       before = λ slot. slot.links.before;
       after = λ slot. slot.links.after;
-      held = λ i slot. record { id = record { slot = i }; function = slot.function; frame = slot.frame; code_place = slot.code_place; standing = slot.standing };
+      held = λ i slot. record {
+        id = record { slot = i };
+        function = slot.function;
+        frame = slot.frame;
+        code_place = slot.code_place;
+        standing = slot.standing;
+      };
       number = λ activation. activation.id.slot;
       in_place = λ i slot. refl;
     }
@@ -22,7 +28,7 @@ with_before before slot = record slot { links = record slot.links { before = bef
 abbrev pub with_after : Option ℕ → Slot → Slot
 with_after after slot = record slot { links = record slot.links { after = after } }
 
--- a slot is filled, and the one that was the newest is told
+-- a slot is filled, and the one that was the newest is linked to it
 pub record IsFilled (old new : Slab Slot) (slot : Slot) (index : ℕ) : Type 0 where
   pub filled : Slab Slot
   pub was_free : get old index ≡ None
@@ -30,7 +36,7 @@ pub record IsFilled (old new : Slab Slot) (slot : Slot) (index : ℕ) : Type 0 w
   pub one_more : slab_len filled ≡ slab_len old + 1
   pub newest : Changes filled new slot.links.before (with_after (Some index))
 
--- a slot is given back, and its neighbours are told of each other
+-- a slot is given back, and its neighbours are linked to each other
 pub record IsEmptied (old new : Slab Slot) (slot : Slot) (index : ℕ) : Type 0 where
   pub emptied : Slab Slot
   pub joined : Slab Slot

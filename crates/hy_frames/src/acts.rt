@@ -1,6 +1,7 @@
 // The live activations.
 ghost use Rattle.std.specs.Prelude.{◌≡◌, ◌≢◌, Some, None, ◌++◌, ◌∷◌, [], ℕ, IfOk, OnErr, IsSomeAnd};
-ghost use Rattle.hy_frames.specs.Activations.{Activation, activation, IsLive, IsRunning, IsSuspended, HaveOwnIds, caller_of, started, suspended, resumed, gone_to, with_activation, without_activation};
+ghost use Rattle.hy_frames.specs.Activations.{Activation, activation, IsLive, IsRunning, IsSuspended, HaveOwnIds, caller_of, started, suspended, resumed};
+ghost use Rattle.hy_frames.specs.Activations.{gone_to, with_activation, without_activation};
 ghost use Rattle.hy_frames.specs.Slots.{order};
 
 use crate::slots::{Slot, push, unlink};
@@ -13,8 +14,8 @@ use std::marker::Model;
 
 /// The live activations of a machine, in order of start.
 ///
-/// A clause sees the list of them, each with its id, the function whose code it runs, the block that is its frame, its
-/// place in the code and how it stands. Each call takes a fixed number of steps, however many are live; memory is taken
+/// A contract sees the list of them, each with its id, the function whose code it runs, the block that is its frame, its
+/// place in the code and its standing. Each call takes a fixed number of steps, however many are live; memory is taken
 /// by `start` alone. The calls trust their conditions: none tests that an id is live.
 #[derive(Drop)]
 pub struct Acts {
@@ -65,8 +66,8 @@ impl Acts {
         }
     }
 
-    /// Starts an activation of a function, with the block that is its frame, behind all others. It runs, at place 0 of
-    /// the function's code. The only refusal is want of memory, and changes nothing.
+    /// Starts an activation of a function, with the block that is its frame, after all others. It runs, at place 0 of
+    /// the function's code. It fails only out of memory, and then nothing has changed.
     pub fn start(
         &mut self,
         function: u32,

@@ -1,13 +1,13 @@
-// The names of activations, and how an activation stands.
+// The names of activations, and an activation's standing.
 
-/// The name of a live activation. It stands for that activation until it ends, and may be given to a later one then.
+/// The name of a live activation. It names that activation until it ends, and may be given to a later one then.
 #[derive(Clone, Copy, Debug, PartialEq, Eq)]
 pub struct ActId {
     /// The place at which the activation is kept.
     pub slot: u32,
 }
 
-/// How an activation stands: it runs, with a caller to which it gives what it hands out or returns, or it is suspended
+/// An activation's standing: it runs, with a caller to which it gives what it hands out or returns, or it is suspended
 /// and has none until it is resumed.
 #[derive(Clone, Copy, Debug, PartialEq, Eq)]
 pub enum Standing {

@@ -20,7 +20,7 @@ pub struct Slot {
     pub standing: Standing,
 }
 
-// Tells the activation at `at`, if there is one, which one is before it.
+// Sets which activation is before the one at `at`, if there is one.
 fn set_before(slots: &mut Slab<Slot>, at: Option<u32>, before: Option<u32>)
     ensures { Changes slots.old slots.new at (with_before before) }
 {
@@ -31,7 +31,7 @@ fn set_before(slots: &mut Slab<Slot>, at: Option<u32>, before: Option<u32>)
     }
 }
 
-// Tells the activation at `at`, if there is one, which one is after it.
+// Sets which activation is after the one at `at`, if there is one.
 fn set_after(slots: &mut Slab<Slot>, at: Option<u32>, after: Option<u32>)
     ensures { Changes slots.old slots.new at (with_after after) }
 {
@@ -52,7 +52,7 @@ fn next_index(slots: &Slab<Slot>) -> Result<u32, NoMemory>
     }
 }
 
-/// Fills a slot, tells the newest until now, which is the one before it, and gives its index. A refusal changes no slot.
+/// Fills a slot, links the newest until now, which is the one before it, to it, and gives its index. A refusal changes no slot.
 pub fn push(slots: &mut Slab<Slot>, slot: Slot) -> Result<u32, NoMemory>
     ensures filled { IfOk result (λ index. IsFilled slots.old slots.new slot index) }
     ensures refused { OnErr result (slots.new.slots ≡ slots.old.slots) }

@@ -2,3 +2,4 @@ mod Firsts
 mod Lists
 pub mod Phased
 mod Walks
+mod LexedNames

@@ -1,6 +1,7 @@
 -- The lists of a tree, as lists that a walk goes over.
 use Rattle.std.proofs.Common.{◌≡◌, List, [], map, length, ◌∷◌, ◌++◌, Some, None, refl, sym, ap}
-use Rattle.hy_tree.specs.Denotes.{placed, expr_kind_of, type_of, types_of, expr_of, exprs_of, link_of, links_of, step_of, steps_of, args_of, choices_of, stmt_of, stmts_of, block_of, branches_of, param_of, variant_of, member_of, member_kind_of, decl_of}
+use Rattle.hy_tree.specs.Denotes.{placed, expr_kind_of, type_of, types_of, expr_of, exprs_of, link_of, links_of, step_of, steps_of, args_of, choices_of}
+use Rattle.hy_tree.specs.Denotes.{stmt_of, stmts_of, block_of, branches_of, param_of, variant_of, member_of, member_kind_of, decl_of}
 use Rattle.hy_tree.specs.declared.declaration.Decl.{Decl}
 use Rattle.hy_tree.specs.declared.declaration.Member.{Member}
 use Rattle.hy_tree.specs.declared.declaration.Param.{Param}
@@ -18,8 +19,10 @@ use Rattle.hy_tree.specs.declared.expression.Step.{Step}
 use Rattle.hy_tree.specs.declared.written.TypeExp.{TypeExp}
 use Rattle.hy_tree.specs.Tree as T
 use Rattle.hy_meaning.specs.Forms.{only_value, only_call}
-use Rattle.hy_front.specs.Unbuilt.{Table, in_type, in_types, in_expr, in_exprs, in_link, in_links, in_step, in_steps, in_args, in_choices, in_stmt, in_stmts, in_block, in_branches, is_special, when, in_uses, in_generics, in_params, in_variants, in_member_kind, in_members, in_decl, in_decls}
-use Rattle.hy_front.proofs.Walks.{IsWalk}
+use Rattle.hy_front.specs.Unbuilt.{Table, in_type, in_types, in_expr, in_exprs, in_link, in_links, in_step, in_steps, in_args, in_choices, in_stmt, in_stmts}
+use Rattle.hy_front.specs.Unbuilt.{in_block, in_branches, is_special, when, in_uses, in_generics, in_params, in_variants, in_member_kind, in_members, in_decl}
+use Rattle.hy_front.specs.Unbuilt.{in_decls}
+use Rattle.hy_base.proofs.Walks.{IsWalk}
 
 -- nothing goes on beside the list
 abbrev pub Alone : Type 0
@@ -41,19 +44,23 @@ module _ (meant : Table) where
   pub args_walk : IsWalk (λ (s : Alone) (xs : List Arg). in_args meant (args_of xs)) (λ s x. in_expr meant (expr_of x.value)) (λ s x. s)
   args_walk = record { none = λ s. refl; some = λ s x more. refl }
 
-  pub choices_walk : IsWalk (λ (s : Alone) (xs : List Choice). in_choices meant (choices_of xs)) (λ s x. in_expr meant (expr_of x.condition) ++ in_expr meant (expr_of x.value)) (λ s x. s)
+  pub choices_walk : IsWalk (λ (s : Alone) (xs : List Choice). in_choices meant (choices_of xs)) (λ s x. in_expr meant (expr_of x.condition)
+      ++ in_expr meant (expr_of x.value)) (λ s x. s)
   choices_walk = record { none = λ s. refl; some = λ s x more. refl }
 
   pub stmts_walk : IsWalk (λ (s : Alone) (xs : List Stmt). in_stmts meant (stmts_of xs)) (λ s x. in_stmt meant (stmt_of x)) (λ s x. s)
   stmts_walk = record { none = λ s. refl; some = λ s x more. refl }
 
-  pub branches_walk : IsWalk (λ (s : Alone) (xs : List Branch). in_branches meant (branches_of xs)) (λ s x. in_expr meant (expr_of (out-Branch x).condition) ++ in_block meant (block_of (out-Branch x).block)) (λ s x. s)
+  pub branches_walk : IsWalk (λ (s : Alone) (xs : List Branch). in_branches meant (branches_of xs)) (λ s x. in_expr meant (expr_of (out-Branch x).condition)
+      ++ in_block meant (block_of (out-Branch x).block)) (λ s x. s)
   branches_walk = record { none = λ s. refl; some = λ s x more. refl }
 
-  pub variants_walk : IsWalk (λ (s : Alone) (xs : List Variant). in_variants meant (map variant_of xs)) (λ s x. when (is_special (variant_of x)) x.span ++ in_block meant (block_of x.block)) (λ s x. s)
+  pub variants_walk : IsWalk (λ (s : Alone) (xs : List Variant). in_variants meant (map variant_of xs)) (λ s x. when (is_special (variant_of x)) x.span
+      ++ in_block meant (block_of x.block)) (λ s x. s)
   variants_walk = record { none = λ s. refl; some = λ s x more. refl }
 
-  pub members_walk : IsWalk (λ (s : Alone) (xs : List Member). in_members meant (map member_of xs)) (λ s x. x.span ∷ in_member_kind meant (member_kind_of x.kind)) (λ s x. s)
+  pub members_walk : IsWalk (λ (s : Alone) (xs : List Member). in_members meant (map member_of xs)) (λ s x. x.span
+      ∷ in_member_kind meant (member_kind_of x.kind)) (λ s x. s)
   members_walk = record { none = λ s. refl; some = λ s x more. refl }
 
   pub decls_walk : IsWalk (λ (s : Alone) (xs : List Decl). in_decls meant (map decl_of xs)) (λ s x. in_decl meant (decl_of x)) (λ s x. s)

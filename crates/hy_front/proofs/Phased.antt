@@ -1,5 +1,6 @@
 -- The first of all broken rules, phase by phase.
-use Rattle.std.proofs.Common.{◌≡◌, ◌<◌, ◌≤◌, inl, inr, ⊎_elim, ℕ, List, [], ◌∷◌, length, Option, Some, None, refl, sym, ap, subst, ◌∙◌, arith, Result, Ok, Err, IsErrAnd}
+use Rattle.std.proofs.Common.{◌≡◌, ◌<◌, ◌≤◌, inl, inr, ⊎_elim, ℕ, List, [], ◌∷◌, length, Option, Some, None, refl, sym, ap, subst, ◌∙◌, arith, Result, Ok}
+use Rattle.std.proofs.Common.{Err, IsErrAnd}
 use Rattle.hy_base.specs.Answers.{Answers}
 use Rattle.hy_base.specs.declared.refusal.Fault.{Fault}
 use Rattle.hy_base.specs.declared.refusal.Fault.TheVariants.{Refused, NoMemory}
@@ -26,7 +27,8 @@ module _ (phase : Refusal → Type 0) (later : List (Refusal → Type 0)) where
   in_later (Some f) none first = (inr (none, first.0), λ g h p. ⊎_elim (λ here. none g here) (λ there. first.1 g there.1 p) h)
 
 -- phases that say the same
-first_as : (one other : Refusal → Type 0) (o : Option Refusal) → ((f : Refusal) → one f → other f) → ((f : Refusal) → other f → one f) → IsFirst one o → IsFirst other o
+first_as : (one other : Refusal → Type 0) (o : Option Refusal) → ((f : Refusal) → one f → other f) → ((f : Refusal) → other f → one f) → IsFirst one o
+    → IsFirst other o
 first_as one other None to back first = λ f h. first f (back f h)
 first_as one other (Some g) to back first = (to g first.0, λ f h p. first.1 f (back f h) p)
 
@@ -39,7 +41,8 @@ too_long = record { rule = Z1; span = record { from = longest; to = longest } }
 
 module _ (bytes : List ℕ) where
   pub refused_length : longest < length bytes → IsFirst (Breaks bytes) (Some too_long)
-  refused_length long = in_this (BreaksLength bytes) (L.Breaks bytes ∷ BreaksGrammar bytes ∷ BreaksNames bytes ∷ BreaksForms bytes ∷ []) too_long ((refl, long), λ g h p. subst (λ (g : Refusal). Precedes g too_long → ⊥) (sym h.0) (λ p. itself p) p)
+  refused_length long = in_this (BreaksLength bytes) (L.Breaks bytes ∷ BreaksGrammar bytes ∷ BreaksNames bytes ∷ BreaksForms bytes ∷ []) too_long
+      ((refl, long), λ g h p. subst (λ (g : Refusal). Precedes g too_long → ⊥) (sym h.0) (λ p. itself p) p)
     where
       itself : Precedes too_long too_long → ⊥
       itself p = omega (arith, p)
@@ -66,7 +69,8 @@ module _ (bytes : List ℕ) where
           (λ f h. subst (λ tokens. P.Breaks tokens (length bytes) f) (one_list bytes h.0 tokens h.1 has) h.2) first
 
       pub refused_by_grammar : (f : Refusal) → IsFirst (P.Breaks tokens (length bytes)) (Some f) → IsFirst (Breaks bytes) (Some f)
-      refused_by_grammar f first = behind_lexer (Some f) (in_this (BreaksGrammar bytes) (BreaksNames bytes ∷ BreaksForms bytes ∷ []) f (grammar_as (Some f) first))
+      refused_by_grammar f first = behind_lexer (Some f) (in_this (BreaksGrammar bytes) (BreaksNames bytes ∷ BreaksForms bytes ∷ []) f
+          (grammar_as (Some f) first))
 
       module _ (one_program : (tokens : List Token) (one other : T.Program) → IsProgram tokens one → IsProgram tokens other → one ≡ other)
           (tree : T.Program) (parsed : IsFirst (P.Breaks tokens (length bytes)) None) (is : P.HasTree tokens tree) where
@@ -79,8 +83,10 @@ module _ (bytes : List ℕ) where
         behind_grammar o first = behind_lexer o (in_later (BreaksGrammar bytes) (BreaksNames bytes ∷ BreaksForms bytes ∷ []) o (grammar_as None parsed) first)
 
         -- what a phase says of the tree of the source
-        of_tree : (breaks : T.Program → Refusal → Type 0) (o : Option Refusal) → IsFirst (breaks tree) o → IsFirst (λ f. (tree : T.Program) × HasTree bytes tree × breaks tree f) o
-        of_tree breaks o first = first_as (breaks tree) (λ f. (tree : T.Program) × HasTree bytes tree × breaks tree f) o (λ f h. (tree, (tokens, has, is), h)) (λ f h. subst (λ tree. breaks tree f) (same_tree h.0 h.1) h.2) first
+        of_tree : (breaks : T.Program → Refusal → Type 0) (o : Option Refusal) → IsFirst (breaks tree) o
+            → IsFirst (λ f. (tree : T.Program) × HasTree bytes tree × breaks tree f) o
+        of_tree breaks o first = first_as (breaks tree) (λ f. (tree : T.Program) × HasTree bytes tree × breaks tree f) o
+            (λ f h. (tree, (tokens, has, is), h)) (λ f h. subst (λ tree. breaks tree f) (same_tree h.0 h.1) h.2) first
 
         pub refused_by_names : (f : Refusal) → IsFirst (N.Breaks tree) (Some f) → IsFirst (Breaks bytes) (Some f)
         refused_by_names f first = behind_grammar (Some f) (in_this (BreaksNames bytes) (BreaksForms bytes ∷ []) f (of_tree N.Breaks (Some f) first))
@@ -100,14 +106,17 @@ one_tree_of one_list one_program bytes one other h k =
     these.2.2 ∙ ap number_program (one_program these.0 these.2.0 those.0 these.2.1 those.1) ∙ sym those.2
 
 -- what a pass answers, with the rules of all
-module _ {T : Type 0} (bytes : List ℕ) (Gives : T → Type 0) (phase : Refusal → Type 0) (to : (o : Option Refusal) → IsFirst phase o → IsFirst (Breaks bytes) o) where
-  pub answers_by : {Gives' : T → Type 0} (r : Result T Fault) → ((value : T) → IsFirst (Breaks bytes) None → Gives' value → Gives value) → Answers phase Gives' r → Answers (Breaks bytes) Gives r
+module _ {T : Type 0} (bytes : List ℕ) (Gives : T → Type 0) (phase : Refusal → Type 0) (to : (o : Option Refusal) → IsFirst phase o
+    → IsFirst (Breaks bytes) o) where
+  pub answers_by : {Gives' : T → Type 0} (r : Result T Fault) → ((value : T) → IsFirst (Breaks bytes) None → Gives' value → Gives value)
+      → Answers phase Gives' r → Answers (Breaks bytes) Gives r
   answers_by (Ok value) gives h = let first = to None h.0 in (first, gives value first h.1)
   answers_by (Err (Refused rule span)) gives h = to (Some (record { rule = rule; span = span })) h
   answers_by (Err NoMemory) gives h = tt
 
 -- a fault that a pass answered is handed on
-pub hands_on : {T U : Type 0} (bytes : List ℕ) (Gives : T → Type 0) (phase : Refusal → Type 0) (Had : U → Type 0) → ((f : Refusal) → IsFirst phase (Some f) → IsFirst (Breaks bytes) (Some f))
+pub hands_on : {T U : Type 0} (bytes : List ℕ) (Gives : T → Type 0) (phase : Refusal → Type 0) (Had : U → Type 0) → ((f : Refusal) → IsFirst phase (Some f)
+    → IsFirst (Breaks bytes) (Some f))
     → (fault : Fault) (result : Result T Fault) → IsErrAnd result (λ e. e ≡ fault) → Answers phase Had (Err fault) → Answers (Breaks bytes) Gives result
 hands_on bytes Gives phase Had to fault (Ok value) same h = absurd same
 hands_on {T} {U} bytes Gives phase Had to fault (Err f) same h = by f (subst (λ g. Answers {T = U} phase Had (Err g)) (sym same) h)

@@ -8,10 +8,10 @@ use Rattle.hy_tree.specs.declared.operator.Arithmetic.TheVariants as arithmetic
 use Rattle.hy_tree.specs.declared.operator.Introducer.TheVariants as introducer
 use Rattle.hy_tree.specs.declared.operator.Operator.TheVariants as operator
 use Rattle.hy_meaning.specs.Rows.{span, at, spelled, named, number, print, main, sum, overflow}
-use Rattle.hy_front.specs.Noted.{after}
+use Rattle.hy_front.specs.Noted.{unbuilt_at, after}
 use Rattle.hy_front.specs.Unbuilt.{unbuilt}
 
--- the statements, one behind the other
+-- the statements, one after the other
 abbrev pub two : T.Stmt → T.Stmt → T.Program
 two one other = main (T.ThenStmt one (T.ThenStmt other T.NoStmt))
 
@@ -44,9 +44,12 @@ pub record Rows : Type 0 where
   -- fun main() { main() }: a statement, an expression and a step, and no value `main`
   pub callee : places (one (call (codes "main") 13 17 19)) ≡ span 13 19 ∷ span 13 19 ∷ span 13 19 ∷ []
   -- fun main() { var x = 1; while true { print(x) } }: a variable of the block around
-  pub outer_block : places (two var_x (T.While (span 24 29) (T.Truth true (at 30 34)) (T.Braces (T.ThenStmt (print (named (codes "x") 43 44) 37 45) T.NoStmt) (at 35 47)) (at 24 47))) ≡ span 24 47 ∷ span 30 34 ∷ []
+  pub outer_block : places (two var_x (T.While (span 24 29) (T.Truth true (at 30 34))
+      (T.Braces (T.ThenStmt (print (named (codes "x") 43 44) 37 45) T.NoStmt) (at 35 47)) (at 24 47))) ≡ span 24 47 ∷ span 30 34 ∷ []
   -- fun main() { print(1 - true) }: the operand is met before the operator
-  pub two_places : places (one (print (T.Chain (number (pos 1) 19 20) (T.ThenLink (operator.Arithmetic arithmetic.Subtract) (span 21 22) (T.Truth true (at 23 27)) (at 19 27) T.NoLink) (at 19 27)) 13 28)) ≡ span 19 27 ∷ span 23 27 ∷ []
-  pub the_first : after (span 19 27 ∷ span 23 27 ∷ []) None ≡ Some (span 23 27)
+  pub two_places : places (one (print (T.Chain (number (pos 1) 19 20) (T.ThenLink (operator.Arithmetic arithmetic.Subtract) (span 21 22)
+      (T.Truth true (at 23 27)) (at 19 27) T.NoLink) (at 19 27)) 13 28)) ≡ span 19 27 ∷ span 23 27 ∷ []
+  pub the_first : after (span 19 27 ∷ span 23 27 ∷ []) None ≡ Some (unbuilt_at (span 23 27))
   -- fun main() { while true {} }: the condition ends before the statement does
-  pub inner_first : after (places (one (T.While (span 13 18) (T.Truth true (at 19 23)) (T.Braces T.NoStmt (at 24 26)) (at 13 26)))) None ≡ Some (span 19 23)
+  pub inner_first : after (places (one (T.While (span 13 18) (T.Truth true (at 19 23)) (T.Braces T.NoStmt (at 24 26)) (at 13 26)))) None
+      ≡ Some (unbuilt_at (span 19 23))

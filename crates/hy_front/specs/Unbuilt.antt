@@ -82,7 +82,7 @@ abbrev pub has_arguments : T.Steps → Bool
 has_arguments T.NoStep = false
 has_arguments (T.ThenStep step more) = is_application step
 
--- a name with arguments right behind it is called, and is no value
+-- a name with arguments right after it is called, and is no value
 abbrev pub is_callee : T.Expr → T.Steps → Bool
 is_callee primary steps = is_name primary && has_arguments steps
 
@@ -238,7 +238,8 @@ in_variants meant (v ∷ more) = (when (is_special v) v.at.span ++ in_block mean
 
 -- what can be called, where `main` says that it is `fun main()`
 abbrev pub in_callable : Table → Bool → T.Callable → List Span
-in_callable meant main c = when (not main) c.at.span ++ (in_generics c.generics ++ (in_params c.params ++ (in_written c.result ++ in_variants meant c.variants)))
+in_callable meant main c = when (not main) c.at.span
+    ++ (in_generics c.generics ++ (in_params c.params ++ (in_written c.result ++ in_variants meant c.variants)))
 
 abbrev pub in_member_kind : Table → T.MemberKind → List Span
 in_member_kind meant (T.Field name written) = in_type written

@@ -1,23 +1,25 @@
 // Declarations.
 ghost use Rattle.std.specs.Prelude.{◌≡◌, map, None};
-ghost use Rattle.hy_tree.specs.Denotes.{callable_of, conform_of, decl_kind_of, decl_of, member_kind_of, member_of, param_of, product_of, program_of, trait_of, variant_of};
-ghost use Rattle.hy_tree.specs.Findings.{is_main as is_the_main};
+ghost use Rattle.hy_tree.specs.Denotes.{callable_of, conform_of, decl_kind_of, decl_of, member_kind_of, member_of, param_of, product_of, program_of};
+ghost use Rattle.hy_tree.specs.Denotes.{trait_of, variant_of};
+ghost use Rattle.hy_tree.specs.Findings as findings;
 ghost use Rattle.hy_tree.specs.Tree.{DeclProduct, DeclTrait, DeclConform};
 ghost use Rattle.hy_front.specs.Noted.{after};
-ghost use Rattle.hy_front.specs.Unbuilt.{in_uses, in_generics, in_params, in_variants, in_callable, in_member_kind, in_members, in_decl_kind, in_decl, in_decls, unbuilt};
+ghost use Rattle.hy_front.specs.Unbuilt.{in_uses, in_generics, in_params, in_variants, in_callable, in_member_kind, in_members, in_decl_kind, in_decl};
+ghost use Rattle.hy_front.specs.Unbuilt.{in_decls, unbuilt};
 
 use crate::forms::{is_main, is_special};
 use crate::least::{meet, meet_when};
 use crate::statement::look_at_block;
 use crate::written::{look_at_type, look_at_written};
-use hy_base::Span;
+use hy_base::BrokenRule;
 use hy_tree::{
     Callable, Conform, Decl, DeclKind, Meant, Member, MemberKind, NameUse, Param, Product, Program,
     TraitDef, TypeParam, Variant,
 };
 
 /// Looks at names of traits.
-fn look_at_uses(first: Option<Span>, names: &[NameUse]) -> Option<Span>
+fn look_at_uses(first: Option<BrokenRule>, names: &[NameUse]) -> Option<BrokenRule>
     ensures { result ≡ after (in_uses names.now) first }
 {
     let mut first = first;
@@ -27,7 +29,7 @@ fn look_at_uses(first: Option<Span>, names: &[NameUse]) -> Option<Span>
     first
 }
 
-fn look_at_generics(first: Option<Span>, generics: &[TypeParam]) -> Option<Span>
+fn look_at_generics(first: Option<BrokenRule>, generics: &[TypeParam]) -> Option<BrokenRule>
     ensures { result ≡ after (in_generics generics.now) first }
 {
     let mut first = first;
@@ -37,7 +39,7 @@ fn look_at_generics(first: Option<Span>, generics: &[TypeParam]) -> Option<Span>
     first
 }
 
-fn look_at_params(first: Option<Span>, params: &[Param]) -> Option<Span>
+fn look_at_params(first: Option<BrokenRule>, params: &[Param]) -> Option<BrokenRule>
     ensures { result ≡ after (in_params (map param_of params.now)) first }
 {
     let mut first = first;
@@ -47,7 +49,11 @@ fn look_at_params(first: Option<Span>, params: &[Param]) -> Option<Span>
     first
 }
 
-fn look_at_variants(first: Option<Span>, meant: &[Meant], variants: &[Variant]) -> Option<Span>
+fn look_at_variants(
+    first: Option<BrokenRule>,
+    meant: &[Meant],
+    variants: &[Variant],
+) -> Option<BrokenRule>
     ensures { result ≡ after (in_variants meant.now (map variant_of variants.now)) first }
 {
     let mut first = first;
@@ -59,7 +65,12 @@ fn look_at_variants(first: Option<Span>, meant: &[Meant], variants: &[Variant]) 
 }
 
 /// Looks at what can be called, where `main` says that it is `fun main()`.
-fn look_at_callable(first: Option<Span>, meant: &[Meant], main: bool, c: &Callable) -> Option<Span>
+fn look_at_callable(
+    first: Option<BrokenRule>,
+    meant: &[Meant],
+    main: bool,
+    c: &Callable,
+) -> Option<BrokenRule>
     ensures { result ≡ after (in_callable meant.now main (callable_of c.now)) first }
 {
     let first = meet_when(first, !main, c.span);
@@ -69,7 +80,11 @@ fn look_at_callable(first: Option<Span>, meant: &[Meant], main: bool, c: &Callab
     look_at_variants(first, meant, c.variants.as_slice())
 }
 
-fn look_at_member_kind(first: Option<Span>, meant: &[Meant], member: &MemberKind) -> Option<Span>
+fn look_at_member_kind(
+    first: Option<BrokenRule>,
+    meant: &[Meant],
+    member: &MemberKind,
+) -> Option<BrokenRule>
     ensures { result ≡ after (in_member_kind meant.now (member_kind_of member.now)) first }
 {
     match member {
@@ -79,7 +94,11 @@ fn look_at_member_kind(first: Option<Span>, meant: &[Meant], member: &MemberKind
     }
 }
 
-fn look_at_members(first: Option<Span>, meant: &[Meant], members: &[Member]) -> Option<Span>
+fn look_at_members(
+    first: Option<BrokenRule>,
+    meant: &[Meant],
+    members: &[Member],
+) -> Option<BrokenRule>
     ensures { result ≡ after (in_members meant.now (map member_of members.now)) first }
 {
     let mut first = first;
@@ -89,20 +108,20 @@ fn look_at_members(first: Option<Span>, meant: &[Meant], members: &[Member]) -> 
     first
 }
 
-fn look_at_product(first: Option<Span>, meant: &[Meant], p: &Product) -> Option<Span>
+fn look_at_product(first: Option<BrokenRule>, meant: &[Meant], p: &Product) -> Option<BrokenRule>
     ensures { result ≡ after (in_decl_kind meant.now (DeclProduct (product_of p.now))) first }
 {
     let first = look_at_uses(meet(first, p.span), p.traits.as_slice());
     look_at_members(first, meant, p.members.as_slice())
 }
 
-fn look_at_trait(first: Option<Span>, meant: &[Meant], t: &TraitDef) -> Option<Span>
+fn look_at_trait(first: Option<BrokenRule>, meant: &[Meant], t: &TraitDef) -> Option<BrokenRule>
     ensures { result ≡ after (in_decl_kind meant.now (DeclTrait (trait_of t.now))) first }
 {
     look_at_members(meet(first, t.span), meant, t.members.as_slice())
 }
 
-fn look_at_conform(first: Option<Span>, meant: &[Meant], c: &Conform) -> Option<Span>
+fn look_at_conform(first: Option<BrokenRule>, meant: &[Meant], c: &Conform) -> Option<BrokenRule>
     ensures { result ≡ after (in_decl_kind meant.now (DeclConform (conform_of c.now))) first }
 {
     let first = meet(meet(first, c.span), c.target.span);
@@ -111,7 +130,11 @@ fn look_at_conform(first: Option<Span>, meant: &[Meant], c: &Conform) -> Option<
 }
 
 /// Looks at what is declared.
-fn look_at_decl_kind(first: Option<Span>, meant: &[Meant], decl: &DeclKind) -> Option<Span>
+fn look_at_decl_kind(
+    first: Option<BrokenRule>,
+    meant: &[Meant],
+    decl: &DeclKind,
+) -> Option<BrokenRule>
     ensures { result ≡ after (in_decl_kind meant.now (decl_kind_of decl.now)) first }
 {
     match decl {
@@ -124,7 +147,7 @@ fn look_at_decl_kind(first: Option<Span>, meant: &[Meant], decl: &DeclKind) -> O
 
 /// Whether `fun main()` is declared.
 fn declares_main(decl: &DeclKind) -> bool
-    ensures { result ≡ is_the_main (decl_kind_of decl.now) }
+    ensures { result ≡ findings.is_main (decl_kind_of decl.now) }
 {
     match decl {
         DeclKind::Callable(c) => is_main(c),
@@ -135,7 +158,7 @@ fn declares_main(decl: &DeclKind) -> bool
 }
 
 /// Looks at a declaration.
-fn look_at_decl(first: Option<Span>, meant: &[Meant], decl: &Decl) -> Option<Span>
+fn look_at_decl(first: Option<BrokenRule>, meant: &[Meant], decl: &Decl) -> Option<BrokenRule>
     ensures { result ≡ after (in_decl meant.now (decl_of decl.now)) first }
 {
     let first = meet_when(first, decl.public || !declares_main(&decl.kind), decl.span);
@@ -143,7 +166,7 @@ fn look_at_decl(first: Option<Span>, meant: &[Meant], decl: &Decl) -> Option<Spa
 }
 
 /// Looks at the declarations of a file.
-fn look_at_decls(first: Option<Span>, meant: &[Meant], decls: &[Decl]) -> Option<Span>
+fn look_at_decls(first: Option<BrokenRule>, meant: &[Meant], decls: &[Decl]) -> Option<BrokenRule>
     ensures { result ≡ after (in_decls meant.now (map decl_of decls.now)) first }
 {
     let mut first = first;
@@ -155,7 +178,7 @@ fn look_at_decls(first: Option<Span>, meant: &[Meant], decls: &[Decl]) -> Option
 
 /// The first place of a tree where a form is not built, or none where all are built. `meant` has what names stand for, by the
 /// number of the node that uses the name.
-pub fn first_unbuilt(tree: &Program, meant: &[Meant]) -> Option<Span>
+pub fn first_unbuilt(tree: &Program, meant: &[Meant]) -> Option<BrokenRule>
     ensures { result ≡ after (unbuilt meant.now (program_of tree.now)) None }
 {
     look_at_decls(None, meant, tree.decls.as_slice())

@@ -7,12 +7,12 @@ ghost use Rattle.hy_front.specs.Unbuilt.{in_operand, in_expr, in_exprs, in_link,
 use crate::forms::{is_callee, is_plus, is_variable};
 use crate::least::{meet, meet_when};
 use crate::written::look_at_type;
-use hy_base::Span;
+use hy_base::BrokenRule;
 use hy_tree::{Arg, Choice, Expr, ExprKind, Link, Meant, Step, StepKind};
 
 /// An operand is no sum.
 #[tactic(auto, using(hy_tree::proofs::Equations::expr_variants))]
-fn look_at_operand(first: Option<Span>, e: &Expr) -> Option<Span>
+fn look_at_operand(first: Option<BrokenRule>, e: &Expr) -> Option<BrokenRule>
     ensures { result ≡ after (in_operand (expr_of e.now)) first }
 {
     match &e.kind {
@@ -34,7 +34,7 @@ fn look_at_operand(first: Option<Span>, e: &Expr) -> Option<Span>
 /// Looks at an expression, where `meant` has what names stand for.
 #[cycle(expression)]
 #[tactic(auto, using(hy_tree::proofs::Equations::expr_variants))]
-pub fn look_at_expr(first: Option<Span>, meant: &[Meant], e: &Expr) -> Option<Span>
+pub fn look_at_expr(first: Option<BrokenRule>, meant: &[Meant], e: &Expr) -> Option<BrokenRule>
     ensures { result ≡ after (in_expr meant.now (expr_of e.now)) first }
 {
     match &e.kind {
@@ -71,7 +71,7 @@ pub fn look_at_expr(first: Option<Span>, meant: &[Meant], e: &Expr) -> Option<Sp
 }
 
 #[cycle(expression)]
-fn look_at_exprs(first: Option<Span>, meant: &[Meant], parts: &[Expr]) -> Option<Span>
+fn look_at_exprs(first: Option<BrokenRule>, meant: &[Meant], parts: &[Expr]) -> Option<BrokenRule>
     ensures { result ≡ after (in_exprs meant.now (exprs_of parts.now)) first }
 {
     let mut first = first;
@@ -83,7 +83,7 @@ fn look_at_exprs(first: Option<Span>, meant: &[Meant], parts: &[Expr]) -> Option
 
 /// Looks at an operator with its right operand.
 #[cycle(expression)]
-fn look_at_link(first: Option<Span>, meant: &[Meant], link: &Link) -> Option<Span>
+fn look_at_link(first: Option<BrokenRule>, meant: &[Meant], link: &Link) -> Option<BrokenRule>
     ensures { result ≡ after (in_link meant.now (link_of link.now)) first }
 {
     let first = meet_when(first, !is_plus(link.operator), link.span);
@@ -92,7 +92,7 @@ fn look_at_link(first: Option<Span>, meant: &[Meant], link: &Link) -> Option<Spa
 }
 
 #[cycle(expression)]
-fn look_at_links(first: Option<Span>, meant: &[Meant], links: &[Link]) -> Option<Span>
+fn look_at_links(first: Option<BrokenRule>, meant: &[Meant], links: &[Link]) -> Option<BrokenRule>
     ensures { result ≡ after (in_links meant.now (links_of links.now)) first }
 {
     let mut first = first;
@@ -104,7 +104,7 @@ fn look_at_links(first: Option<Span>, meant: &[Meant], links: &[Link]) -> Option
 
 #[cycle(expression)]
 #[tactic(auto, using(hy_tree::proofs::Equations::step_variants))]
-fn look_at_step(first: Option<Span>, meant: &[Meant], step: &Step) -> Option<Span>
+fn look_at_step(first: Option<BrokenRule>, meant: &[Meant], step: &Step) -> Option<BrokenRule>
     ensures { result ≡ after (in_step meant.now (step_of step.now)) first }
 {
     let first = meet(first, step.span);
@@ -117,7 +117,7 @@ fn look_at_step(first: Option<Span>, meant: &[Meant], step: &Step) -> Option<Spa
 }
 
 #[cycle(expression)]
-fn look_at_steps(first: Option<Span>, meant: &[Meant], steps: &[Step]) -> Option<Span>
+fn look_at_steps(first: Option<BrokenRule>, meant: &[Meant], steps: &[Step]) -> Option<BrokenRule>
     ensures { result ≡ after (in_steps meant.now (steps_of steps.now)) first }
 {
     let mut first = first;
@@ -128,7 +128,7 @@ fn look_at_steps(first: Option<Span>, meant: &[Meant], steps: &[Step]) -> Option
 }
 
 #[cycle(expression)]
-fn look_at_args(first: Option<Span>, meant: &[Meant], args: &[Arg]) -> Option<Span>
+fn look_at_args(first: Option<BrokenRule>, meant: &[Meant], args: &[Arg]) -> Option<BrokenRule>
     ensures { result ≡ after (in_args meant.now (args_of args.now)) first }
 {
     let mut first = first;
@@ -139,7 +139,11 @@ fn look_at_args(first: Option<Span>, meant: &[Meant], args: &[Arg]) -> Option<Sp
 }
 
 #[cycle(expression)]
-fn look_at_choices(first: Option<Span>, meant: &[Meant], choices: &[Choice]) -> Option<Span>
+fn look_at_choices(
+    first: Option<BrokenRule>,
+    meant: &[Meant],
+    choices: &[Choice],
+) -> Option<BrokenRule>
     ensures { result ≡ after (in_choices meant.now (choices_of choices.now)) first }
 {
     let mut first = first;

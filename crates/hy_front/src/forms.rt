@@ -2,10 +2,10 @@
 ghost use Rattle.std.specs.Prelude.{◌≡◌, false};
 ghost use Rattle.std.specs.Option.{option_map, option_copied};
 ghost use Rattle.hy_tree.specs.Denotes.{expr_of, args_of, step_of, steps_of, callable_of, variant_of, type_of};
-ghost use Rattle.hy_tree.specs.Findings.{is_main as is_the_main, is_function as is_the_function};
+ghost use Rattle.hy_tree.specs.Findings as findings;
 ghost use Rattle.hy_tree.specs.Tree.{DeclCallable};
-ghost use Rattle.hy_meaning.specs.Forms.{is_print as is_the_print, only_value as the_value, only_call as the_call, call_value as the_call_value, printed as is_printed};
-ghost use Rattle.hy_front.specs.Unbuilt.{is_plus as adds, is_place as is_a_place, is_place_step as is_a_place_step, is_name as is_a_name, ends_in_place as ends, is_plain as is_a_plain, is_application as is_an_application, has_arguments as has_some_arguments, is_callee as is_a_callee, is_variable as is_a_variable, is_special as is_a_special};
+ghost use Rattle.hy_meaning.specs.Forms as forms;
+ghost use Rattle.hy_front.specs.Unbuilt as unbuilt;
 
 use hy_tree::{
     Arg, Arithmetic, Callable, CallableKind, Expr, ExprKind, Introducer, Meant, Operator, Step,
@@ -15,7 +15,7 @@ use hy_tree::{
 /// Whether it is the name `print`.
 #[tactic(auto, using(hy_tree::proofs::Equations::expr_variants))]
 fn is_print(e: &Expr) -> bool
-    ensures { result ≡ is_the_print (expr_of e.now) }
+    ensures { result ≡ forms.is_print (expr_of e.now) }
 {
     match &e.kind {
         ExprKind::Name(name) => name.text.as_slice() == b"print".as_slice(),
@@ -35,7 +35,7 @@ fn is_print(e: &Expr) -> bool
 
 /// The value of one argument without a label.
 fn only_value(args: &[Arg]) -> Option<&Expr>
-    ensures { option_map expr_of (option_copied result) ≡ the_value (args_of args.now) }
+    ensures { option_map expr_of (option_copied result) ≡ forms.only_value (args_of args.now) }
 {
     if args.len() != 1 {
         return None;
@@ -49,7 +49,7 @@ fn only_value(args: &[Arg]) -> Option<&Expr>
 /// The same of a call's.
 #[tactic(auto, using(hy_tree::proofs::Equations::step_variants))]
 fn call_value(step: &Step) -> Option<&Expr>
-    ensures { option_map expr_of (option_copied result) ≡ the_call_value (step_of step.now) }
+    ensures { option_map expr_of (option_copied result) ≡ forms.call_value (step_of step.now) }
 {
     match &step.kind {
         StepKind::Call(args) => only_value(args.as_slice()),
@@ -61,7 +61,7 @@ fn call_value(step: &Step) -> Option<&Expr>
 
 /// The same where the call is the only step.
 fn only_call(steps: &[Step]) -> Option<&Expr>
-    ensures { option_map expr_of (option_copied result) ≡ the_call (steps_of steps.now) }
+    ensures { option_map expr_of (option_copied result) ≡ forms.only_call (steps_of steps.now) }
 {
     if steps.len() != 1 {
         return None;
@@ -72,7 +72,7 @@ fn only_call(steps: &[Step]) -> Option<&Expr>
 /// The value that is printed, if the expression is `print(value)`.
 #[tactic(auto, using(hy_tree::proofs::Equations::expr_variants))]
 pub fn printed(e: &Expr) -> Option<&Expr>
-    ensures { option_map expr_of (option_copied result) ≡ is_printed (expr_of e.now) }
+    ensures { option_map expr_of (option_copied result) ≡ forms.printed (expr_of e.now) }
 {
     match &e.kind {
         ExprKind::Postfix(primary, steps) => {
@@ -98,7 +98,7 @@ pub fn printed(e: &Expr) -> Option<&Expr>
 
 /// Whether it is `+`.
 pub fn is_plus(operator: Operator) -> bool
-    ensures { result ≡ adds operator }
+    ensures { result ≡ unbuilt.is_plus operator }
 {
     match operator {
         Operator::Arithmetic(Arithmetic::Add) => true,
@@ -109,7 +109,7 @@ pub fn is_plus(operator: Operator) -> bool
 /// Whether the step is `.NAME`, `.NUMBER` or `[..]`.
 #[tactic(auto, using(hy_tree::proofs::Equations::step_variants))]
 fn is_place_step(step: &Step) -> bool
-    ensures { result ≡ is_a_place_step (step_of step.now) }
+    ensures { result ≡ unbuilt.is_place_step (step_of step.now) }
 {
     match &step.kind {
         StepKind::Member(_) => true,
@@ -121,7 +121,7 @@ fn is_place_step(step: &Step) -> bool
 
 /// Whether the last step is such a one.
 fn ends_in_place(steps: &[Step]) -> bool
-    ensures { result ≡ ends false (steps_of steps.now) }
+    ensures { result ≡ unbuilt.ends_in_place false (steps_of steps.now) }
 {
     let mut ends = false;
     for step in steps {
@@ -133,7 +133,7 @@ fn ends_in_place(steps: &[Step]) -> bool
 /// Whether it is a place form: a name, `self`, or an expression that ends in a step to a part.
 #[tactic(auto, using(hy_tree::proofs::Equations::expr_variants))]
 pub fn is_place(e: &Expr) -> bool
-    ensures { result ≡ is_a_place (expr_of e.now) }
+    ensures { result ≡ unbuilt.is_place (expr_of e.now) }
 {
     match &e.kind {
         ExprKind::Name(_) => true,
@@ -154,7 +154,7 @@ pub fn is_place(e: &Expr) -> bool
 /// Whether it is a name.
 #[tactic(auto, using(hy_tree::proofs::Equations::expr_variants))]
 pub fn is_name(e: &Expr) -> bool
-    ensures { result ≡ is_a_name (expr_of e.now) }
+    ensures { result ≡ unbuilt.is_name (expr_of e.now) }
 {
     match &e.kind {
         ExprKind::Name(_) => true,
@@ -175,7 +175,7 @@ pub fn is_name(e: &Expr) -> bool
 /// Whether the step is `(..)` or `[..]`.
 #[tactic(auto, using(hy_tree::proofs::Equations::step_variants))]
 fn is_application(step: &Step) -> bool
-    ensures { result ≡ is_an_application (step_of step.now) }
+    ensures { result ≡ unbuilt.is_application (step_of step.now) }
 {
     match &step.kind {
         StepKind::Call(_) => true,
@@ -187,7 +187,7 @@ fn is_application(step: &Step) -> bool
 
 /// Whether arguments stand first among the steps.
 fn has_arguments(steps: &[Step]) -> bool
-    ensures { result ≡ has_some_arguments (steps_of steps.now) }
+    ensures { result ≡ unbuilt.has_arguments (steps_of steps.now) }
 {
     match steps.first() {
         Some(step) => is_application(step),
@@ -195,16 +195,16 @@ fn has_arguments(steps: &[Step]) -> bool
     }
 }
 
-/// Whether an expression with these steps behind it is a name that is called, which is no value.
+/// Whether an expression with these steps after it is a name that is called, which is no value.
 pub fn is_callee(primary: &Expr, steps: &[Step]) -> bool
-    ensures { result ≡ is_a_callee (expr_of primary.now) (steps_of steps.now) }
+    ensures { result ≡ unbuilt.is_callee (expr_of primary.now) (steps_of steps.now) }
 {
     is_name(primary) && has_arguments(steps)
 }
 
 /// Whether the name at a node stands for a variable.
 pub fn is_variable(meant: &[Meant], node: u32) -> bool
-    ensures { result ≡ is_a_variable meant.now node }
+    ensures { result ≡ unbuilt.is_variable meant.now node }
 {
     match meant.get(node as usize) {
         Some(Meant::Local(_)) => true,
@@ -214,14 +214,14 @@ pub fn is_variable(meant: &[Meant], node: u32) -> bool
 
 /// Whether a variant has a keyword or a new value.
 pub fn is_special(variant: &Variant) -> bool
-    ensures { result ≡ is_a_special (variant_of variant.now) }
+    ensures { result ≡ unbuilt.is_special (variant_of variant.now) }
 {
     variant.keyword.is_some() || variant.value.is_some()
 }
 
 /// Whether it is `var` without a written type.
 pub fn is_plain(introducer: Introducer, written: &Option<TypeExp>) -> bool
-    ensures { result ≡ is_a_plain introducer (option_map type_of written.now) }
+    ensures { result ≡ unbuilt.is_plain introducer (option_map type_of written.now) }
 {
     match (introducer, written) {
         (Introducer::Var, None) => true,
@@ -232,7 +232,7 @@ pub fn is_plain(introducer: Introducer, written: &Option<TypeExp>) -> bool
 }
 
 fn is_function(kind: CallableKind) -> bool
-    ensures { result ≡ is_the_function kind }
+    ensures { result ≡ findings.is_function kind }
 {
     match kind {
         CallableKind::Function => true,
@@ -244,7 +244,7 @@ fn is_function(kind: CallableKind) -> bool
 
 /// Whether this is `fun main()`, without generics and result.
 pub fn is_main(c: &Callable) -> bool
-    ensures { result ≡ is_the_main (DeclCallable (callable_of c.now)) }
+    ensures { result ≡ findings.is_main (DeclCallable (callable_of c.now)) }
 {
     let named = match &c.name {
         Some(name) => name.text.as_slice() == b"main".as_slice(),

@@ -1,4 +1,4 @@
-// All passes, one behind the other.
+// All passes, one after the other.
 ghost use Rattle.std.specs.Prelude.{◌≡◌, List, ℕ};
 ghost use Rattle.hy_base.specs.Answers.{Answers};
 ghost use Rattle.hy_tree.specs.Denotes.{program_of};
@@ -25,7 +25,7 @@ fn accept(tree: Program, meant: &[Meant]) -> Result<Program, Fault>
     ensures { Answers (BreaksForm (program_of tree)) (λ accepted. program_of accepted ≡ program_of tree) result }
 {
     match first_unbuilt(&tree, meant) {
-        Some(span) => Err(Fault::Refused(Rule::X1, span)),
+        Some(first) => Err(Fault::Refused(first.rule, first.span)),
         None => Ok(tree),
     }
 }

@@ -1,4 +1,4 @@
-//! All passes up to the tree, one behind the other: a source is accepted, or refused with the first rule that it breaks.
+//! All passes up to the tree, one after the other: a source is accepted, or refused with the first rule that it breaks.
 //! `docs/REFUSALS.md` has the rules.
 #![tactic(auto)]
 
@@ -13,4 +13,4 @@ mod written;
 
 pub use forms::printed;
 pub use fronted::{LONGEST, front, one_tree};
-pub use laws::rows;
+pub use laws::{lexed_names_are_names, rows};

@@ -4,17 +4,17 @@ ghost use Rattle.std.specs.Option.{option_map};
 ghost use Rattle.hy_tree.specs.Denotes.{expr_of, stmt_of, block_of, branches_of, else_of, placed};
 ghost use Rattle.hy_front.specs.Noted.{after};
 ghost use Rattle.hy_front.specs.Unbuilt.{in_value, in_bound, in_printed, in_returned, in_stmt, in_block, in_branches, in_otherwise};
-ghost use Rattle.hy_meaning.specs.Forms.{printed as is_printed};
+ghost use Rattle.hy_meaning.specs.Forms as forms;
 
 use crate::expression::look_at_expr;
 use crate::forms::{is_name, is_place, is_plain, printed};
 use crate::least::{meet, meet_when};
 use crate::written::{look_at_type, look_at_written};
-use hy_base::Span;
+use hy_base::{BrokenRule, Span};
 use hy_tree::{Block, Branch, Expr, Introducer, Meant, Stmt, StmtKind};
 
 /// Looks at the value of `var` or `=`.
-fn look_at_value(first: Option<Span>, meant: &[Meant], value: &Expr) -> Option<Span>
+fn look_at_value(first: Option<BrokenRule>, meant: &[Meant], value: &Expr) -> Option<BrokenRule>
     ensures { result ≡ after (in_value meant.now (expr_of value.now)) first }
 {
     let first = meet_when(first, is_place(value), value.span);
@@ -23,11 +23,11 @@ fn look_at_value(first: Option<Span>, meant: &[Meant], value: &Expr) -> Option<S
 
 /// Looks at the value that a name is bound to.
 fn look_at_bound(
-    first: Option<Span>,
+    first: Option<BrokenRule>,
     meant: &[Meant],
     introducer: Introducer,
     value: &Expr,
-) -> Option<Span>
+) -> Option<BrokenRule>
     ensures { result ≡ after (in_bound meant.now introducer (expr_of value.now)) first }
 {
     match introducer {
@@ -38,8 +38,13 @@ fn look_at_bound(
 }
 
 /// Looks at an expression that is a statement with this span.
-fn look_at_evaluated(first: Option<Span>, meant: &[Meant], e: &Expr, span: Span) -> Option<Span>
-    ensures { result ≡ after (in_printed meant.now (expr_of e.now) span (is_printed (expr_of e.now))) first }
+fn look_at_evaluated(
+    first: Option<BrokenRule>,
+    meant: &[Meant],
+    e: &Expr,
+    span: Span,
+) -> Option<BrokenRule>
+    ensures { result ≡ after (in_printed meant.now (expr_of e.now) span (forms.printed (expr_of e.now))) first }
 {
     match printed(e) {
         Some(value) => {
@@ -51,7 +56,11 @@ fn look_at_evaluated(first: Option<Span>, meant: &[Meant], e: &Expr, span: Span)
 }
 
 /// Looks at the value of a `return`.
-fn look_at_returned(first: Option<Span>, meant: &[Meant], value: &Option<Expr>) -> Option<Span>
+fn look_at_returned(
+    first: Option<BrokenRule>,
+    meant: &[Meant],
+    value: &Option<Expr>,
+) -> Option<BrokenRule>
     ensures { result ≡ after (in_returned meant.now (option_map expr_of value.now)) first }
 {
     match value {
@@ -63,7 +72,7 @@ fn look_at_returned(first: Option<Span>, meant: &[Meant], value: &Option<Expr>) 
 /// Looks at a statement.
 #[cycle(statement)]
 #[tactic(auto, using(hy_tree::proofs::Equations::stmt_variants))]
-fn look_at_stmt(first: Option<Span>, meant: &[Meant], stmt: &Stmt) -> Option<Span>
+fn look_at_stmt(first: Option<BrokenRule>, meant: &[Meant], stmt: &Stmt) -> Option<BrokenRule>
     ensures { result ≡ after (in_stmt meant.now (stmt_of stmt.now)) first }
 {
     match &stmt.kind {
@@ -100,7 +109,7 @@ fn look_at_stmt(first: Option<Span>, meant: &[Meant], stmt: &Stmt) -> Option<Spa
 
 /// Looks at a block.
 #[cycle(statement)]
-pub fn look_at_block(first: Option<Span>, meant: &[Meant], body: &Block) -> Option<Span>
+pub fn look_at_block(first: Option<BrokenRule>, meant: &[Meant], body: &Block) -> Option<BrokenRule>
     ensures { result ≡ after (in_block meant.now (block_of body.now)) first }
 {
     let mut first = first;
@@ -111,7 +120,11 @@ pub fn look_at_block(first: Option<Span>, meant: &[Meant], body: &Block) -> Opti
 }
 
 #[cycle(statement)]
-fn look_at_branches(first: Option<Span>, meant: &[Meant], branches: &[Branch]) -> Option<Span>
+fn look_at_branches(
+    first: Option<BrokenRule>,
+    meant: &[Meant],
+    branches: &[Branch],
+) -> Option<BrokenRule>
     ensures { result ≡ after (in_branches meant.now (branches_of branches.now)) first }
 {
     let mut first = first;
@@ -123,7 +136,11 @@ fn look_at_branches(first: Option<Span>, meant: &[Meant], branches: &[Branch]) -
 }
 
 #[cycle(statement)]
-fn look_at_else(first: Option<Span>, meant: &[Meant], otherwise: &Option<Block>) -> Option<Span>
+fn look_at_else(
+    first: Option<BrokenRule>,
+    meant: &[Meant],
+    otherwise: &Option<Block>,
+) -> Option<BrokenRule>
     ensures { result ≡ after (in_otherwise meant.now (else_of otherwise.now)) first }
 {
     match otherwise {

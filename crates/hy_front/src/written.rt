@@ -6,13 +6,13 @@ ghost use Rattle.hy_front.specs.Noted.{after};
 ghost use Rattle.hy_front.specs.Unbuilt.{in_type, in_types, in_written};
 
 use crate::least::meet;
-use hy_base::Span;
+use hy_base::BrokenRule;
 use hy_tree::{TypeExp, TypeKind};
 
 /// Looks at a type.
 #[cycle(written)]
 #[tactic(auto, using(hy_tree::proofs::Equations::type_variants))]
-pub fn look_at_type(first: Option<Span>, written: &TypeExp) -> Option<Span>
+pub fn look_at_type(first: Option<BrokenRule>, written: &TypeExp) -> Option<BrokenRule>
     ensures { result ≡ after (in_type (type_of written.now)) first }
 {
     let first = meet(first, written.span);
@@ -25,7 +25,7 @@ pub fn look_at_type(first: Option<Span>, written: &TypeExp) -> Option<Span>
 }
 
 #[cycle(written)]
-fn look_at_types(first: Option<Span>, parts: &[TypeExp]) -> Option<Span>
+fn look_at_types(first: Option<BrokenRule>, parts: &[TypeExp]) -> Option<BrokenRule>
     ensures { result ≡ after (in_types (types_of parts.now)) first }
 {
     let mut first = first;
@@ -36,7 +36,7 @@ fn look_at_types(first: Option<Span>, parts: &[TypeExp]) -> Option<Span>
 }
 
 /// Looks at a type that may be left out.
-pub fn look_at_written(first: Option<Span>, written: &Option<TypeExp>) -> Option<Span>
+pub fn look_at_written(first: Option<BrokenRule>, written: &Option<TypeExp>) -> Option<BrokenRule>
     ensures { result ≡ after (in_written (option_map type_of written.now)) first }
 {
     match written {

@@ -6,7 +6,19 @@ use Rattle.hy_lexer.specs.declared.token.TokenKind.TheVariants as k
 use Rattle.hy_tree.specs.Tree as T
 use Rattle.hy_grammar.specs.DeclSteps.{sort_in}
 use Rattle.hy_grammar.specs.Machine.{run}
-use Rattle.hy_grammar.specs.Stack.{Home, InFile, InOwner, Sort, Requirement, Subscript, Head, Body, PlainBody, VariantBody, Brackets, Round, Square, Place, InBody, InBranch, InElse, InLoop, Use, ForTarget, ForBinding, ForAssigned, ForCompound, ForDiscard, ForReturn, ForYield, ForBranch, ForLoop, ForPart, ForElement, ForArgument, ForCondition, ForChoice, ForOtherwise, Spot, InExpr, TypeUse, ForElementType, ForTypePart, ForEmptyArray, ForVariable, ForParam, ForResult, ForField, State, FileReady, FileDone, PublicDecl, DeclRead, TypeWord, TypeName, TraitWord, TraitName, ConformanceWord, ConformanceName, TraitWanted, TraitListed, MembersReady, MembersDone, PublicMember, MemberRead, FieldWord, FieldName, MemberwiseWord, FunctionWord, FunctionName, SubscriptWord, GenericWanted, GenericName, BoundWanted, BoundListed, ParamsWanted, ParamsOpened, ParamWanted, ParamFirst, ParamUnlabelled, ParamName, ParamColon, ParamRead, ParamsRead, EffectRead, ResultRead, BodyWanted, BodyOpened, BodyWord, VariantsRead, SetWord, SetOpened, SetName, BlockOpened, StmtWanted, StmtRead, BindingWord, BindingName, BindingType, DiscardWord, ReturnWord, BranchRead, BranchElse, Operand, Postfixed, Operated, Valued, Dotted, PartsOpened, PartsRead, ElementsRead, ArgumentsOpened, ArgumentWanted, ArgumentName, ArgumentsRead, ArrayWord, ArrayType, ArrayClosed, ArrayOpened, ChoiceRead, ChoiceElse, TypeWanted, ArrayTypeWord, ArrayTypeElement, TypesOpened, TypesRead}
+use Rattle.hy_grammar.specs.Stack.{Home, InFile, InOwner, Sort, Requirement, Subscript, Head, Body, PlainBody, VariantBody, Brackets, Round, Square, Place}
+use Rattle.hy_grammar.specs.Stack.{InBody, InBranch, InElse, InLoop, Use, ForTarget, ForBinding, ForAssigned, ForCompound, ForDiscard, ForReturn, ForYield}
+use Rattle.hy_grammar.specs.Stack.{ForBranch, ForLoop, ForPart, ForElement, ForArgument, ForCondition, ForChoice, ForOtherwise, Spot, InExpr, TypeUse}
+use Rattle.hy_grammar.specs.Stack.{ForElementType, ForTypePart, ForEmptyArray, ForVariable, ForParam, ForResult, ForField, State, FileReady, FileDone}
+use Rattle.hy_grammar.specs.Stack.{PublicDecl, DeclRead, TypeWord, TypeName, TraitWord, TraitName, ConformanceWord, ConformanceName, TraitWanted}
+use Rattle.hy_grammar.specs.Stack.{TraitListed, MembersReady, MembersDone, PublicMember, MemberRead, FieldWord, FieldName, MemberwiseWord, FunctionWord}
+use Rattle.hy_grammar.specs.Stack.{FunctionName, SubscriptWord, GenericWanted, GenericName, BoundWanted, BoundListed, ParamsWanted, ParamsOpened}
+use Rattle.hy_grammar.specs.Stack.{ParamWanted, ParamFirst, ParamUnlabelled, ParamName, ParamColon, ParamRead, ParamsRead, EffectRead, ResultRead}
+use Rattle.hy_grammar.specs.Stack.{BodyWanted, BodyOpened, BodyWord, VariantsRead, SetWord, SetOpened, SetName, BlockOpened, StmtWanted, StmtRead}
+use Rattle.hy_grammar.specs.Stack.{BindingWord, BindingName, BindingType, DiscardWord, ReturnWord, BranchRead, BranchElse, Operand, Postfixed, Operated}
+use Rattle.hy_grammar.specs.Stack.{Valued, Dotted, PartsOpened, PartsRead, ElementsRead, ArgumentsOpened, ArgumentWanted, ArgumentName, ArgumentsRead}
+use Rattle.hy_grammar.specs.Stack.{ArrayWord, ArrayType, ArrayClosed, ArrayOpened, ChoiceRead, ChoiceElse, TypeWanted, ArrayTypeWord, ArrayTypeElement}
+use Rattle.hy_grammar.specs.Stack.{TypesOpened, TypesRead}
 
 abbrev pub mark : TokenKind → Token
 mark kind = record { kind = kind; span = record { from = 0; to = 0 }; first = false }
@@ -14,7 +26,7 @@ mark kind = record { kind = kind; span = record { from = 0; to = 0 }; first = fa
 abbrev pub a_name : Token
 a_name = mark (k.Name (codes "x"))
 
--- behind a declaration, or a member
+-- after a declaration, or a member
 unfoldable pub leave_home : Home → List Token
 leave_home (InFile decls) = []
 leave_home (InOwner owner members) = mark k.RightBrace ∷ []
@@ -24,7 +36,7 @@ unfoldable pub leave_sort : Sort → Home → List Token
 leave_sort Requirement home = mark k.Semicolon ∷ leave_home home
 leave_sort _ home = mark k.LeftBrace ∷ mark k.RightBrace ∷ leave_home home
 
--- behind the parameters
+-- after the parameters
 unfoldable pub leave_params : Sort → Home → List Token
 leave_params Subscript home = mark k.Colon ∷ a_name ∷ leave_sort Subscript home
 leave_params sort home = leave_sort sort home
@@ -32,12 +44,12 @@ leave_params sort home = leave_sort sort home
 abbrev pub leave_head : Head → List Token
 leave_head head = leave_params head.sort head.home
 
--- behind the block of a body
+-- after the block of a body
 unfoldable pub leave_body : Body → List Token
 leave_body (PlainBody head) = leave_home head.home
 leave_body (VariantBody head brace variants keyword mode value) = mark k.RightBrace ∷ leave_home head.home
 
--- behind a statement
+-- after a statement
 unfoldable pub leave_place : Place → List Token
 leave_place (InBody body brace) = mark k.RightBrace ∷ leave_body body
 leave_place (InBranch from branches word condition brace before place) = mark k.RightBrace ∷ leave_place place
@@ -53,7 +65,7 @@ abbrev pub a_choice : List Token → List Token
 a_choice more = mark k.Else ∷ mark k.LeftBrace ∷ a_name ∷ mark k.RightBrace ∷ more
 
 unfoldable mutual
-  -- behind an expression
+  -- after an expression
   pub leave_use : Use → List Token
   leave_use (ForTarget before place) = leave_place place
   leave_use (ForBinding introducer word name written before place) = leave_place place
@@ -71,11 +83,11 @@ unfoldable mutual
   leave_use (ForChoice from choices word condition spot) = mark k.RightBrace ∷ a_choice (leave_spot spot)
   leave_use (ForOtherwise from choices spot) = mark k.RightBrace ∷ leave_spot spot
 
-  -- behind an operand
+  -- after an operand
   pub leave_spot : Spot → List Token
   leave_spot (InExpr prefixes tiers u) = leave_use u
 
--- behind a type
+-- after a type
 unfoldable pub leave_type : TypeUse → List Token
 leave_type (ForElementType word u) = mark k.Greater ∷ leave_type u
 leave_type (ForTypePart bracket parts u) = mark k.RightParen ∷ leave_type u
@@ -88,7 +100,7 @@ leave_type (ForField owner members start name) = mark k.RightBrace ∷ []
 abbrev pub empty_members : List Token
 empty_members = mark k.LeftBrace ∷ mark k.RightBrace ∷ []
 
--- behind `fun`
+-- after `fun`
 abbrev pub leave_function : Home → List Token
 leave_function home = a_name ∷ mark k.LeftParen ∷ mark k.RightParen ∷ leave_params (sort_in home) home
 
@@ -135,7 +147,8 @@ completion (BodyWanted body) = mark k.LeftBrace ∷ mark k.RightBrace ∷ leave_
 completion (BodyOpened head brace) = mark k.RightBrace ∷ leave_home head.home
 completion (BodyWord head brace introducer mode word) = mark k.LeftBrace ∷ mark k.RightBrace ∷ mark k.RightBrace ∷ leave_home head.home
 completion (VariantsRead head brace variants) = mark k.RightBrace ∷ leave_home head.home
-completion (SetWord head brace variants word) = mark k.LeftParen ∷ a_name ∷ mark k.RightParen ∷ mark k.LeftBrace ∷ mark k.RightBrace ∷ mark k.RightBrace ∷ leave_home head.home
+completion (SetWord head brace variants word) = mark k.LeftParen ∷ a_name ∷ mark k.RightParen ∷ mark k.LeftBrace ∷ mark k.RightBrace ∷ mark k.RightBrace ∷
+    leave_home head.home
 completion (SetOpened head brace variants word) = a_name ∷ mark k.RightParen ∷ mark k.LeftBrace ∷ mark k.RightBrace ∷ mark k.RightBrace ∷ leave_home head.home
 completion (SetName head brace variants word name) = mark k.RightParen ∷ mark k.LeftBrace ∷ mark k.RightBrace ∷ mark k.RightBrace ∷ leave_home head.home
 completion (BlockOpened place) = leave_place place

@@ -17,14 +17,30 @@ use Rattle.hy_grammar.specs.Kinds.{effect_of, function_mode_of, subscript_mode_o
 use Rattle.hy_grammar.specs.Nodes as node
 use Rattle.hy_grammar.specs.TypeSteps.{at_type}
 use Rattle.hy_grammar.specs.StmtSteps.{callable_of, callable_read, at_block_opened}
-use Rattle.hy_grammar.specs.Stack.{Start, Opening, Subject, TypeSubject, ConformanceSubject, Owner, TraitOwner, ListedOwner, Home, InFile, InOwner, Sort, FileFunction, Method, Requirement, Subscript, Deinit, Head, PlainBody, VariantBody, InBody, ForParam, ForResult, State, FileReady, PublicDecl, DeclRead, TypeWord, TraitWord, ConformanceWord, TraitWanted, MembersReady, PublicMember, FieldWord, MemberwiseWord, FunctionWord, SubscriptWord, GenericWanted, BoundWanted, ParamsWanted, ParamsOpened, ParamWanted, ParamFirst, ParamUnlabelled, ParamName, ParamColon, ParamsRead, EffectRead, BodyWanted, BodyOpened, BodyWord, SetWord, BlockOpened, BindingName, TypeWanted}
+use Rattle.hy_grammar.specs.Stack.{Start, Opening, Subject, TypeSubject, ConformanceSubject, Owner, TraitOwner, ListedOwner, Home, InFile, InOwner, Sort}
+use Rattle.hy_grammar.specs.Stack.{FileFunction, Method, Requirement, Subscript, Deinit, Head, PlainBody, VariantBody, InBody, ForParam, ForResult, State}
+use Rattle.hy_grammar.specs.Stack.{FileReady, PublicDecl, DeclRead, TypeWord, TraitWord, ConformanceWord, TraitWanted, MembersReady, PublicMember}
+use Rattle.hy_grammar.specs.Stack.{FieldWord, MemberwiseWord, FunctionWord, SubscriptWord, GenericWanted, BoundWanted, ParamsWanted, ParamsOpened}
+use Rattle.hy_grammar.specs.Stack.{ParamWanted, ParamFirst, ParamUnlabelled, ParamName, ParamColon, ParamsRead, EffectRead, BodyWanted, BodyOpened}
+use Rattle.hy_grammar.specs.Stack.{BodyWord, SetWord, BlockOpened, BindingName, TypeWanted}
 
 -- A declaration or member that begins at a token, with so many tokens before it.
 abbrev pub begins_at : Bool → Token → ℕ → Start
 begins_at public t place = record { public = public; place = place; from = t.span.from }
 
 abbrev pub head_of : Home → Start → Sort → Span → Option Name → Head
-head_of home start sort keyword name = record { home = home; start = start; sort = sort; keyword = keyword; name = name; generics = []; params = []; effect = None; result = None }
+head_of home start sort keyword name = record {
+  home = home;
+  start = start;
+  sort = sort;
+  keyword = keyword;
+  name = name;
+  generics = [];
+  params =
+      [];
+  effect = None;
+  result = None;
+}
 
 -- a `fun` here
 abbrev pub sort_in : Home → Sort
@@ -77,7 +93,7 @@ abbrev pub listed_kind : Opening → Subject → List NameUse → List T.Member 
 listed_kind o (TypeSubject name) traits members close = T.DeclProduct (node.product o.keyword name traits members close)
 listed_kind o (ConformanceSubject target) traits members close = T.DeclConform (node.conformance o.keyword target traits members close)
 
--- behind the `}` of the members
+-- after the `}` of the members
 abbrev pub owner_read : Owner → List T.Member → Span → State
 owner_read (TraitOwner o name) members close = DeclRead o.decls o.start (T.DeclTrait (node.trait o.keyword name members close)) close.to
 owner_read (ListedOwner o subject traits) members close = DeclRead o.decls o.start (listed_kind o subject traits members close) close.to
@@ -104,7 +120,8 @@ at_conformance_member _ t owner members start = None
 abbrev pub at_member : TokenKind → Span → Owner → List T.Member → Start → Option State
 at_member kind t (TraitOwner o name) members start = at_trait_member kind t (TraitOwner o name) members start
 at_member kind t (ListedOwner o (TypeSubject name) traits) members start = at_type_member kind t (ListedOwner o (TypeSubject name) traits) members start
-at_member kind t (ListedOwner o (ConformanceSubject target) traits) members start = at_conformance_member kind t (ListedOwner o (ConformanceSubject target) traits) members start
+at_member kind t (ListedOwner o (ConformanceSubject target) traits) members start =
+    at_conformance_member kind t (ListedOwner o (ConformanceSubject target) traits) members start
 
 -- No member of a trait is `public`.
 abbrev pub at_public : Owner → List T.Member → Start → Option State
@@ -199,12 +216,12 @@ at_param_read _ t head = None
 abbrev pub plain_only : Head → Span → State
 plain_only head t = BlockOpened (InBody (PlainBody head) t)
 
--- A method with its effect behind the parameters has one plain body.
+-- A method with its effect after the parameters has one plain body.
 abbrev pub method_body : Option Mode → Head → Span → State
 method_body None head t = BodyOpened head t
 method_body (Some effect) head t = plain_only head t
 
--- behind the `{` of a body
+-- after the `{` of a body
 abbrev pub body_opened : Sort → Head → Span → State
 body_opened Method head t = method_body head.effect head t
 body_opened Subscript head t = BodyOpened head t
@@ -215,7 +232,7 @@ abbrev pub at_callable_read : Home → Token → ℕ → Head → ℕ → Option
 at_callable_read (InFile decls) t place head to = at_decl_read t place decls head.start (T.DeclCallable (callable_of head [] to)) to
 at_callable_read (InOwner owner members) t place head to = at_member_read t place owner members head.start (T.MemberCallable (callable_of head [] to)) to
 
--- what may stand behind parameters, effect and result: the body, but of a requirement the next member
+-- what may stand after parameters, effect and result: the body, but of a requirement the next member
 abbrev pub at_body : Sort → TokenKind → Token → ℕ → Head → ℕ → Option State
 at_body Requirement kind t place head to = at_callable_read head.home t place head to
 at_body sort k.LeftBrace t place head to = Some (body_opened sort head t.span)

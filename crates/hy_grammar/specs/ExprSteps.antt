@@ -1,4 +1,4 @@
--- How the machine goes on at a token behind an operand, and within an expression.
+-- How the machine goes on at a token after an operand, and within an expression.
 use Rattle.std.specs.Prelude.{ℕ, if◌then◌else◌, List, [], ◌∷◌, ◌++◌, Option, Some, None}
 use Rattle.hy_base.specs.declared.position.Span.{Span}
 use Rattle.hy_lexer.specs.declared.token.Token.{Token}
@@ -7,11 +7,15 @@ use Rattle.hy_lexer.specs.declared.token.TokenKind.TheVariants as k
 use Rattle.hy_tree.specs.Tree as T
 use Rattle.hy_tree.specs.declared.operator.Arithmetic.{Arithmetic}
 use Rattle.hy_tree.specs.declared.operator.Operator.{Operator}
-use Rattle.hy_grammar.specs.Kinds.{Level, Disjunction, Conjunction, Comparison, Addition, Multiplication, Infix, infix_of, compound_of, left_brace, right_brace, right_paren, right_bracket}
+use Rattle.hy_grammar.specs.Kinds.{Level, Disjunction, Conjunction, Comparison, Addition, Multiplication, Infix, infix_of, compound_of, left_brace}
+use Rattle.hy_grammar.specs.Kinds.{right_brace, right_paren, right_bracket}
 use Rattle.hy_grammar.specs.Nodes as node
 use Rattle.hy_grammar.specs.OperandSteps.{no_prefixes, beginning, at_operand}
 use Rattle.hy_grammar.specs.StmtSteps.{at_stmt_read}
-use Rattle.hy_grammar.specs.Stack.{Prefix, Prefixes, Tier, NoChain, OpenChain, Tiers, Brackets, Round, Square, Callee, Place, InBranch, InLoop, Use, ForTarget, ForBinding, ForAssigned, ForCompound, ForDiscard, ForReturn, ForYield, ForBranch, ForLoop, ForPart, ForElement, ForArgument, ForCondition, ForChoice, ForOtherwise, Spot, InExpr, State, BlockOpened, Operand, Postfixed, Dotted, ArgumentsOpened, ArgumentWanted, ArgumentName, ChoiceRead}
+use Rattle.hy_grammar.specs.Stack.{Prefix, Prefixes, Tier, NoChain, OpenChain, Tiers, Brackets, Round, Square, Callee, Place, InBranch, InLoop, Use}
+use Rattle.hy_grammar.specs.Stack.{ForTarget, ForBinding, ForAssigned, ForCompound, ForDiscard, ForReturn, ForYield, ForBranch, ForLoop, ForPart}
+use Rattle.hy_grammar.specs.Stack.{ForElement, ForArgument, ForCondition, ForChoice, ForOtherwise, Spot, InExpr, State, BlockOpened, Operand, Postfixed}
+use Rattle.hy_grammar.specs.Stack.{Dotted, ArgumentsOpened, ArgumentWanted, ArgumentName, ChoiceRead}
 
 -- OPERATORS
 
@@ -32,7 +36,7 @@ abbrev pub join : Tier → T.Expr → T.Expr
 join NoChain operand = operand
 join (OpenChain first links operator token) operand = node.chain first (links ++ node.link first operator token operand ∷ []) operand
 
--- a chain that goes on behind an operand
+-- a chain that goes on after an operand
 abbrev pub extend : Tier → T.Expr → Operator → Span → Tier
 extend NoChain operand operator token = OpenChain operand [] operator token
 extend (OpenChain first links before at) operand operator token = OpenChain first (links ++ node.link first before at operand ∷ []) operator token
@@ -43,20 +47,38 @@ joined Multiplication operand tiers = join tiers.multiplication operand
 joined Addition operand tiers = join tiers.addition (join tiers.multiplication operand)
 joined Comparison operand tiers = join tiers.comparison (join tiers.addition (join tiers.multiplication operand))
 joined Conjunction operand tiers = join tiers.conjunction (join tiers.comparison (join tiers.addition (join tiers.multiplication operand)))
-joined Disjunction operand tiers = join tiers.disjunction (join tiers.conjunction (join tiers.comparison (join tiers.addition (join tiers.multiplication operand))))
+joined Disjunction operand tiers =
+    join tiers.disjunction (join tiers.conjunction (join tiers.comparison (join tiers.addition (join tiers.multiplication operand))))
 
 -- A comparison has one operator.
 abbrev pub compare : Tier → T.Expr → Operator → Span → Tiers → Option Tiers
-compare NoChain operand operator token tiers = Some (record tiers { comparison = OpenChain operand [] operator token; addition = NoChain; multiplication = NoChain })
+compare NoChain operand operator token tiers =
+    Some (record tiers { comparison = OpenChain operand [] operator token; addition = NoChain; multiplication = NoChain })
 compare (OpenChain first links before at) operand operator token tiers = None
 
--- an operator of this level behind an operand
+-- an operator of this level after an operand
 abbrev pub operate : Level → T.Expr → Operator → Span → Tiers → Option Tiers
 operate Multiplication operand operator token tiers = Some (record tiers { multiplication = extend tiers.multiplication operand operator token })
-operate Addition operand operator token tiers = Some (record tiers { addition = extend tiers.addition (joined Multiplication operand tiers) operator token; multiplication = NoChain })
+operate Addition operand operator token tiers =
+    Some (record tiers { addition = extend tiers.addition (joined Multiplication operand tiers) operator token; multiplication = NoChain })
 operate Comparison operand operator token tiers = compare tiers.comparison (joined Addition operand tiers) operator token tiers
-operate Conjunction operand operator token tiers = Some (record tiers { conjunction = extend tiers.conjunction (joined Comparison operand tiers) operator token; comparison = NoChain; addition = NoChain; multiplication = NoChain })
-operate Disjunction operand operator token tiers = Some (record { disjunction = extend tiers.disjunction (joined Conjunction operand tiers) operator token; conjunction = NoChain; comparison = NoChain; addition = NoChain; multiplication = NoChain })
+operate Conjunction operand operator token tiers =
+    Some (record tiers {
+      conjunction = extend tiers.conjunction (joined Comparison operand tiers) operator token;
+      comparison = NoChain;
+      addition =
+          NoChain;
+      multiplication = NoChain;
+    })
+operate Disjunction operand operator token tiers =
+    Some (record {
+      disjunction = extend tiers.disjunction (joined Conjunction operand tiers) operator token;
+      conjunction = NoChain;
+      comparison =
+          NoChain;
+      addition = NoChain;
+      multiplication = NoChain;
+    })
 
 abbrev pub next_operand : Option Tiers → Use → Option State
 next_operand None u = None
@@ -142,11 +164,11 @@ abbrev pub at_infix : Option Infix → T.Expr → Tiers → Use → Token → Op
 at_infix None e tiers u t = at_valued (joined Disjunction e tiers) u t
 at_infix (Some found) e tiers u t = next_operand (operate found.level e found.operator t.span tiers) u
 
--- behind an operand with its operators before it
+-- after an operand with its operators before it
 abbrev pub at_operated : T.Expr → Tiers → Use → Token → Option State
 at_operated e tiers u t = at_infix (infix_of t.kind) e tiers u t
 
--- behind a postfix expression that has come to its end
+-- after a postfix expression that has come to its end
 abbrev pub at_postfix_end : T.Expr → Spot → Token → Option State
 at_postfix_end e (InExpr prefixes tiers u) t = at_operated (operand_of prefixes e) tiers u t
 
@@ -156,8 +178,10 @@ callee primary steps brackets = record { primary = primary; steps = steps; brack
 -- A `(` or `[` that is the first on its line begins no arguments.
 abbrev pub at_postfixed : TokenKind → Token → T.Expr → List T.Step → ℕ → Spot → Option State
 at_postfixed k.Dot t primary steps to spot = Some (Dotted primary steps spot)
-at_postfixed k.LeftParen t primary steps to spot = if t.first then at_postfix_end (node.postfix primary steps to) spot t else Some (ArgumentsOpened (callee primary steps Round) spot)
-at_postfixed k.LeftBracket t primary steps to spot = if t.first then at_postfix_end (node.postfix primary steps to) spot t else Some (ArgumentsOpened (callee primary steps Square) spot)
+at_postfixed k.LeftParen t primary steps to spot =
+    if t.first then at_postfix_end (node.postfix primary steps to) spot t else Some (ArgumentsOpened (callee primary steps Round) spot)
+at_postfixed k.LeftBracket t primary steps to spot =
+    if t.first then at_postfix_end (node.postfix primary steps to) spot t else Some (ArgumentsOpened (callee primary steps Square) spot)
 at_postfixed _ t primary steps to spot = at_postfix_end (node.postfix primary steps to) spot t
 
 abbrev pub at_argument_name : TokenKind → Token → Callee → List T.Arg → List ℕ → Span → Spot → Option State

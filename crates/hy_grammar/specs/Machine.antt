@@ -8,10 +8,24 @@ use Rattle.hy_grammar.specs.Kinds as kind
 use Rattle.hy_grammar.specs.Nodes as node
 use Rattle.hy_grammar.specs.TypeSteps.{typed, at_type, at_types_opened, at_types_read}
 use Rattle.hy_grammar.specs.OperandSteps.{beginning, at_operand}
-use Rattle.hy_grammar.specs.StmtSteps.{at_statement, at_block_opened, at_stmt_read, at_binding_name, at_binding_type, at_return, at_branch_read, at_branch_else}
-use Rattle.hy_grammar.specs.ExprSteps.{at_argument, at_arguments_opened, at_arguments_read, at_parts_opened, at_parts_read, at_elements_read, at_choice_else, at_valued, at_operated, at_postfixed, at_argument_name, at_dotted}
-use Rattle.hy_grammar.specs.DeclSteps.{head_of, sort_in, at_decl, at_file, at_file_done, decl_of, at_decl_read, at_type_name, at_trait_listed, at_member, at_members, at_members_done, at_member_read, at_function_name, at_subscript_word, at_generic_name, at_bound_listed, at_param, at_params_opened, at_param_first, at_param_colon, at_param_read, at_params_read, at_result, at_body, at_body_opened, at_body_word, at_variants_read}
-use Rattle.hy_grammar.specs.Stack.{ConformanceSubject, TraitOwner, VariantBody, InBody, ForElementType, ForEmptyArray, ForField, ForDiscard, State, FileReady, FileDone, PublicDecl, DeclRead, TypeWord, TypeName, TraitWord, TraitName, ConformanceWord, ConformanceName, TraitWanted, TraitListed, MembersReady, MembersDone, PublicMember, MemberRead, FieldWord, FieldName, MemberwiseWord, FunctionWord, FunctionName, SubscriptWord, GenericWanted, GenericName, BoundWanted, BoundListed, ParamsWanted, ParamsOpened, ParamWanted, ParamFirst, ParamUnlabelled, ParamName, ParamColon, ParamRead, ParamsRead, EffectRead, ResultRead, BodyWanted, BodyOpened, BodyWord, VariantsRead, SetWord, SetOpened, SetName, BlockOpened, StmtWanted, StmtRead, BindingWord, BindingName, BindingType, DiscardWord, ReturnWord, BranchRead, BranchElse, Operand, Postfixed, Operated, Valued, Dotted, PartsOpened, PartsRead, ElementsRead, ArgumentsOpened, ArgumentWanted, ArgumentName, ArgumentsRead, ArrayWord, ArrayType, ArrayClosed, ArrayOpened, ChoiceRead, ChoiceElse, TypeWanted, ArrayTypeWord, ArrayTypeElement, TypesOpened, TypesRead, depth}
+use Rattle.hy_grammar.specs.StmtSteps.{at_statement, at_block_opened, at_stmt_read, at_binding_name}
+use Rattle.hy_grammar.specs.StmtSteps.{at_binding_type, at_return, at_branch_read, at_branch_else}
+use Rattle.hy_grammar.specs.ExprSteps.{at_argument, at_arguments_opened, at_arguments_read, at_parts_opened, at_parts_read, at_elements_read}
+use Rattle.hy_grammar.specs.ExprSteps.{at_choice_else, at_valued, at_operated, at_postfixed, at_argument_name, at_dotted}
+use Rattle.hy_grammar.specs.DeclSteps.{head_of, sort_in, at_decl, at_file, at_file_done, decl_of, at_decl_read, at_type_name, at_trait_listed, at_member}
+use Rattle.hy_grammar.specs.DeclSteps.{at_members, at_members_done, at_member_read, at_function_name, at_subscript_word, at_generic_name, at_bound_listed}
+use Rattle.hy_grammar.specs.DeclSteps.{at_param, at_params_opened, at_param_first, at_param_colon, at_param_read, at_params_read, at_result, at_body}
+use Rattle.hy_grammar.specs.DeclSteps.{at_body_opened, at_body_word, at_variants_read}
+use Rattle.hy_grammar.specs.Stack.{ConformanceSubject, TraitOwner, VariantBody, InBody, ForElementType, ForEmptyArray, ForField, ForDiscard, State}
+use Rattle.hy_grammar.specs.Stack.{FileReady, FileDone, PublicDecl, DeclRead, TypeWord, TypeName, TraitWord, TraitName, ConformanceWord, ConformanceName}
+use Rattle.hy_grammar.specs.Stack.{TraitWanted, TraitListed, MembersReady, MembersDone, PublicMember, MemberRead, FieldWord, FieldName, MemberwiseWord}
+use Rattle.hy_grammar.specs.Stack.{FunctionWord, FunctionName, SubscriptWord, GenericWanted, GenericName, BoundWanted, BoundListed, ParamsWanted}
+use Rattle.hy_grammar.specs.Stack.{ParamsOpened, ParamWanted, ParamFirst, ParamUnlabelled, ParamName, ParamColon, ParamRead, ParamsRead, EffectRead}
+use Rattle.hy_grammar.specs.Stack.{ResultRead, BodyWanted, BodyOpened, BodyWord, VariantsRead, SetWord, SetOpened, SetName, BlockOpened, StmtWanted}
+use Rattle.hy_grammar.specs.Stack.{StmtRead, BindingWord, BindingName, BindingType, DiscardWord, ReturnWord, BranchRead, BranchElse, Operand, Postfixed}
+use Rattle.hy_grammar.specs.Stack.{Operated, Valued, Dotted, PartsOpened, PartsRead, ElementsRead, ArgumentsOpened, ArgumentWanted, ArgumentName}
+use Rattle.hy_grammar.specs.Stack.{ArgumentsRead, ArrayWord, ArrayType, ArrayClosed, ArrayOpened, ChoiceRead, ChoiceElse, TypeWanted, ArrayTypeWord}
+use Rattle.hy_grammar.specs.Stack.{ArrayTypeElement, TypesOpened, TypesRead, depth}
 
 -- how the machine goes on at a token with so many before it, or that it cannot stand there
 unfoldable pub step : State → Token → ℕ → Option State
@@ -34,7 +48,8 @@ step (MemberRead owner members start kind to) t place = at_member_read t place o
 step (FieldWord owner members start) t place = kind.name t.kind (λ text. FieldName owner members start (node.spelled text t.span))
 step (FieldName owner members start name) t place = kind.colon t.kind (TypeWanted (ForField owner members start name))
 step (MemberwiseWord owner members start) t place = kind.init_word t.kind (MemberRead owner members start T.MemberwiseInit t.span.to)
-step (FunctionWord home start keyword) t place = kind.name t.kind (λ text. FunctionName (head_of home start (sort_in home) keyword (Some (node.spelled text t.span))))
+step (FunctionWord home start keyword) t place =
+    kind.name t.kind (λ text. FunctionName (head_of home start (sort_in home) keyword (Some (node.spelled text t.span))))
 step (FunctionName head) t place = at_function_name t.kind head
 step (SubscriptWord home start keyword) t place = at_subscript_word t.kind t.span home start keyword
 step (GenericWanted head) t place = kind.name t.kind (λ text. GenericName head (node.spelled text t.span))

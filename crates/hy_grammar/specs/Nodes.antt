@@ -101,7 +101,7 @@ call_step primary args close = T.CallStep (T.args args) (at (from primary) close
 unfoldable pub index_step : T.Expr → List T.Arg → Span → T.Step
 index_step primary args close = T.IndexStep (T.args args) (at (from primary) close.to)
 
--- a primary expression with the steps behind it, the last of which ends there
+-- a primary expression with the steps after it, the last of which ends there
 unfoldable pub postfix : T.Expr → List T.Step → ℕ → T.Expr
 postfix primary [] end = primary
 postfix primary (step ∷ more) end = T.Postfix primary (T.steps (step ∷ more)) (at (from primary) end)
@@ -196,7 +196,19 @@ abbrev pub type_param : Name → List NameUse → TypeParam
 type_param name bounds = record { name = name; bounds = bounds }
 
 unfoldable pub callable : CallableKind → Span → Option Name → List TypeParam → List T.Param → Option Mode → Option T.TypeExp → List T.Variant → ℕ → T.Callable
-callable kind keyword name generics params effect result variants end = record { kind = kind; keyword = keyword; name = name; generics = generics; params = params; effect = effect; result = result; variants = variants; at = at keyword.from end }
+callable kind keyword name generics params effect result variants end =
+    record {
+      kind = kind;
+      keyword = keyword;
+      name = name;
+      generics = generics;
+      params = params;
+      effect = effect;
+      result = result;
+      variants = variants;
+      at =
+          at keyword.from end;
+    }
 
 unfoldable pub product : Span → Name → List NameUse → List T.Member → Span → T.Product
 product keyword name traits members close = record { name = name; traits = traits; members = members; at = at keyword.from close.to }

@@ -18,13 +18,15 @@ no_chains = record { disjunction = NoChain; conjunction = NoChain; comparison = 
 abbrev pub beginning : Use → Spot
 beginning u = InExpr no_prefixes no_chains u
 
--- Behind a `&` comes a postfix expression.
+-- After a `&` comes a postfix expression.
 abbrev pub unless_marked : {A : Type 0} → Option Span → A → Option A
 unless_marked None a = Some a
 unless_marked (Some token) a = None
 
 abbrev pub with_operator : UnaryOperator → Span → Spot → Option State
-with_operator operator t (InExpr prefixes tiers u) = unless_marked prefixes.mark (Operand (InExpr (record prefixes { operators = prefixes.operators ++ record { operator = operator; token = t } ∷ [] }) tiers u))
+with_operator operator t (InExpr prefixes tiers u) =
+    unless_marked prefixes.mark
+    (Operand (InExpr (record prefixes { operators = prefixes.operators ++ record { operator = operator; token = t } ∷ [] }) tiers u))
 
 abbrev pub with_mark : Span → Spot → Option State
 with_mark t (InExpr prefixes tiers u) = unless_marked prefixes.mark (Operand (InExpr (record prefixes { mark = Some t }) tiers u))

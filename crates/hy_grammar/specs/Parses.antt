@@ -17,23 +17,26 @@ abbrev pub reached_from : Option State → (State → Option State) → Option S
 reached_from None more = None
 reached_from (Some s) more = more s
 
--- the state behind tokens, before which stand so many, or none where one of them cannot stand
+-- the state after tokens, before which stand so many, or none where one of them cannot stand
 unfoldable pub reached : ℕ → State → List Token → Option State
 reached place s [] = Some s
 reached place s (t ∷ ts) = reached_from (step s t place) (λ s'. reached (suc place) s' ts)
 
--- These tokens begin a program, and so many levels are open behind them.
+-- These tokens begin a program, and so many levels are open after them.
 abbrev pub Opens : List Token → ℕ → Type 0
 Opens tokens levels = (s : State) × (reached 0 start tokens ≡ Some s) × (depth s ≡ levels)
 
 -- The tokens break a rule there, in a source of so many bytes.
 pub data Breaks (tokens : List Token) (size : ℕ) : Refusal → Type 0 where
   -- the tokens before this one begin a program, and with it they begin none
-  unexpected : (before : List Token) (t : Token) (behind : List Token) → tokens ≡ before ++ t ∷ behind → Begins before → (Begins (before ++ t ∷ []) → ⊥) → Breaks tokens size (record { rule = P1; span = t.span })
+  unexpected : (before : List Token) (t : Token) (behind : List Token) → tokens ≡ before ++ t ∷ behind → Begins before → (Begins (before ++ t ∷ []) → ⊥)
+      → Breaks tokens size (record { rule = P1; span = t.span })
   -- all of them begin a program, and are none: the end of the file, twice
-  too_short : Begins tokens → ((tree : T.Program) → IsProgram tokens tree → ⊥) → Breaks tokens size (record { rule = P1; span = record { from = size; to = size } })
+  too_short : Begins tokens → ((tree : T.Program) → IsProgram tokens tree → ⊥)
+      → Breaks tokens size (record { rule = P1; span = record { from = size; to = size } })
   -- this one is allowed, and begins a level above the limit
-  too_deep : (before : List Token) (t : Token) (behind : List Token) {few many : ℕ} → tokens ≡ before ++ t ∷ behind → Opens before few → few ≤ most_levels → Opens (before ++ t ∷ []) many → most_levels < many
+  too_deep : (before : List Token) (t : Token) (behind : List Token) {few many : ℕ} → tokens ≡ before ++ t ∷ behind → Opens before few → few ≤ most_levels
+      → Opens (before ++ t ∷ []) many → most_levels < many
       → Breaks tokens size (record { rule = P2; span = t.span })
 
 -- The tree that the grammar reads from the tokens, with its nodes numbered.

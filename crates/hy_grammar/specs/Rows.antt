@@ -6,7 +6,7 @@ use Rattle.hy_lexer.specs.declared.token.TokenKind.TheVariants as k
 use Rattle.hy_tree.specs.Tree as T
 use Rattle.hy_grammar.specs.Machine.{Halt, run, start, walk}
 
--- a token of one byte, that is the first on its line or not; the tokens behind are numbered on
+-- a token of one byte, that is the first on its line or not; the tokens after are numbered on
 abbrev pub word : TokenKind → Bool → ℕ → Token
 word kind first at = record { kind = kind; span = record { from = at; to = at + 1 }; first = first }
 
@@ -66,7 +66,9 @@ opened (suc n) more = same k.LeftParen ∷ opened n more
 
 -- `fun main() { var x = `, without its `}`
 abbrev pub in_value : List (ℕ → Token) → List Token
-in_value more = placed 0 (next k.Fun ∷ same (k.Name (codes "main")) ∷ same k.LeftParen ∷ same k.RightParen ∷ same k.LeftBrace ∷ same k.Var ∷ same x ∷ same k.Equal ∷ more)
+in_value more =
+    placed 0 (next k.Fun ∷ same (k.Name (codes "main")) ∷ same k.LeftParen ∷ same k.RightParen ∷ same k.LeftBrace ∷ same k.Var ∷ same x ∷ same k.Equal ∷
+    more)
 
 abbrev pub halted : Result T.Program Halt → Option Halt
 halted (Ok tree) = None

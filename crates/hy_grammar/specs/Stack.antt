@@ -203,7 +203,7 @@ pub data State : Type 0 where
   ResultRead : Head → (to : ℕ) → State
   -- a block is to come
   BodyWanted : Body → State
-  -- the `{` was read, behind which variants or statements may stand; and a word there that begins either
+  -- the `{` was read, after which variants or statements may stand; and a word there that begins either
   BodyOpened : Head → (brace : Span) → State
   BodyWord : Head → (brace : Span) → Introducer → Mode → (word : Span) → State
   -- a variant was read
@@ -223,7 +223,7 @@ pub data State : Type 0 where
   -- `_` was read, and `return`
   DiscardWord : (word : Span) → List T.Stmt → Place → State
   ReturnWord : (word : Span) → List T.Stmt → Place → State
-  -- a block of an `if` was read, which ends there; and the `else` behind it
+  -- a block of an `if` was read, which ends there; and the `else` after it
   BranchRead : (from : ℕ) → List T.Branch → (to : ℕ) → List T.Stmt → Place → State
   BranchElse : (from : ℕ) → List T.Branch → List T.Stmt → Place → State
   -- Of expressions: an operand is to come; a postfix expression may go on, whose last step ends there; an operand was read
@@ -249,7 +249,7 @@ pub data State : Type 0 where
   ArrayType : (word : Span) → T.TypeExp → Spot → State
   ArrayClosed : (word : Span) → T.TypeExp → Spot → State
   ArrayOpened : (word : Span) → T.TypeExp → Spot → State
-  -- a value of an `if` was read; and the `else` behind it; and the last value is to come
+  -- a value of an `if` was read; and the `else` after it; and the last value is to come
   ChoiceRead : (from : ℕ) → List T.Choice → Spot → State
   ChoiceElse : (from : ℕ) → List T.Choice → Spot → State
   -- Of types: one is to come. Of `Array<T>`: the word, the type. In parentheses: the `(`, a part.

@@ -15,7 +15,10 @@ use Rattle.hy_tree.specs.declared.operator.Mode.{Mode}
 use Rattle.hy_tree.specs.declared.operator.Mode.TheVariants as mode
 use Rattle.hy_grammar.specs.Nodes as node
 use Rattle.hy_grammar.specs.OperandSteps.{beginning, at_operand}
-use Rattle.hy_grammar.specs.Stack.{Sort, FileFunction, Method, Requirement, Subscript, Deinit, Home, InFile, InOwner, Head, Body, PlainBody, VariantBody, Place, InBody, InBranch, InElse, InLoop, in_loop, ForTarget, ForBinding, ForReturn, ForYield, ForBranch, ForLoop, ForVariable, State, DeclRead, MemberRead, VariantsRead, BlockOpened, StmtWanted, StmtRead, BindingWord, DiscardWord, ReturnWord, BranchRead, BranchElse, Operand, TypeWanted}
+use Rattle.hy_grammar.specs.Stack.{Sort, FileFunction, Method, Requirement, Subscript, Deinit, Home, InFile, InOwner, Head, Body, PlainBody, VariantBody}
+use Rattle.hy_grammar.specs.Stack.{Place, InBody, InBranch, InElse, InLoop, in_loop, ForTarget, ForBinding, ForReturn, ForYield, ForBranch, ForLoop}
+use Rattle.hy_grammar.specs.Stack.{ForVariable, State, DeclRead, MemberRead, VariantsRead, BlockOpened, StmtWanted, StmtRead, BindingWord, DiscardWord}
+use Rattle.hy_grammar.specs.Stack.{ReturnWord, BranchRead, BranchElse, Operand, TypeWanted}
 
 -- ENDS OF BLOCKS
 
@@ -34,7 +37,7 @@ plain_mode _ effect = unwrap_or effect mode.Let
 abbrev pub callable_of : Head → List T.Variant → ℕ → T.Callable
 callable_of head variants end = node.callable (kind_of head.sort) head.keyword head.name head.generics head.params head.effect head.result variants end
 
--- behind something callable, whose last token ends there
+-- after something callable, whose last token ends there
 abbrev pub called_in : Home → Head → List T.Variant → ℕ → State
 called_in (InFile decls) head variants end = DeclRead decls head.start (T.DeclCallable (callable_of head variants end)) end
 called_in (InOwner owner members) head variants end = MemberRead owner members head.start (T.MemberCallable (callable_of head variants end)) end
@@ -46,10 +49,11 @@ abbrev pub bodied : T.Block → Body → State
 bodied block (PlainBody head) = callable_read head (node.plain_variant (plain_mode head.sort head.effect) block ∷ []) (node.block_to block)
 bodied block (VariantBody head brace variants keyword mode value) = VariantsRead head brace (variants ++ node.variant mode keyword value block ∷ [])
 
--- behind a block
+-- after a block
 abbrev pub blocked : T.Block → Place → State
 blocked block (InBody body brace) = bodied block body
-blocked block (InBranch from branches word condition brace before place) = BranchRead from (branches ++ node.branch word condition block ∷ []) (node.block_to block) before place
+blocked block (InBranch from branches word condition brace before place) =
+    BranchRead from (branches ++ node.branch word condition block ∷ []) (node.block_to block) before place
 blocked block (InElse from branches brace before place) = StmtRead (before ++ node.if_block from branches block ∷ []) place
 blocked block (InLoop word condition brace before place) = StmtRead (before ++ node.while word condition block ∷ []) place
 
@@ -106,7 +110,9 @@ at_binding_type kind t introducer word name written before place = at_declared i
 abbrev pub at_return : TokenKind → Token → Span → List T.Stmt → Place → Option State
 at_return k.Semicolon t word before place = at_stmt_read k.Semicolon t (before ++ node.return_nothing word ∷ []) place
 at_return k.RightBrace t word before place = at_stmt_read k.RightBrace t (before ++ node.return_nothing word ∷ []) place
-at_return kind t word before place = if t.first then at_stmt_read kind t (before ++ node.return_nothing word ∷ []) place else at_operand kind t.span (beginning (ForReturn word before place))
+at_return kind t word before place =
+    if t.first then at_stmt_read kind t (before ++ node.return_nothing word ∷ []) place else at_operand kind t.span
+    (beginning (ForReturn word before place))
 
 abbrev pub at_branch_read : TokenKind → Token → ℕ → List T.Branch → ℕ → List T.Stmt → Place → Option State
 at_branch_read k.Else t from branches to before place = Some (BranchElse from branches before place)

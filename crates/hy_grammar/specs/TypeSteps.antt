@@ -5,7 +5,8 @@ use Rattle.hy_lexer.specs.declared.token.TokenKind.{TokenKind}
 use Rattle.hy_lexer.specs.declared.token.TokenKind.TheVariants as k
 use Rattle.hy_tree.specs.Tree as T
 use Rattle.hy_grammar.specs.Nodes as node
-use Rattle.hy_grammar.specs.Stack.{Head, TypeUse, ForElementType, ForTypePart, ForEmptyArray, ForVariable, ForParam, ForResult, ForField, State, TypeWanted, ArrayTypeWord, ArrayTypeElement, TypesOpened, TypesRead, ArrayType, BindingType, ParamRead, ResultRead, MemberRead}
+use Rattle.hy_grammar.specs.Stack.{Head, TypeUse, ForElementType, ForTypePart, ForEmptyArray, ForVariable, ForParam, ForResult, ForField, State, TypeWanted}
+use Rattle.hy_grammar.specs.Stack.{ArrayTypeWord, ArrayTypeElement, TypesOpened, TypesRead, ArrayType, BindingType, ParamRead, ResultRead, MemberRead}
 
 abbrev pub with_param : Head → T.Param → Head
 with_param head param = record head { params = head.params ++ param ∷ [] }
@@ -13,7 +14,7 @@ with_param head param = record head { params = head.params ++ param ∷ [] }
 abbrev pub with_result : Head → T.TypeExp → Head
 with_result head written = record head { result = Some written }
 
--- behind a type
+-- after a type
 abbrev pub typed : T.TypeExp → TypeUse → State
 typed written (ForElementType word u) = ArrayTypeElement word written u
 typed written (ForTypePart bracket parts u) = TypesRead bracket (parts ++ written ∷ []) u

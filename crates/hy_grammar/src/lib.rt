@@ -12,7 +12,9 @@ pub fn worked_rows()
     // x(1
     ensures unclosed { row.counted (row.in_main (row.same row.x ∷ row.same token.LeftParen ∷ row.same row.one ∷ [])) ≡ Err 1 }
     // var x = 1 | + 1 | x(1)
-    ensures plus_goes_on { row.counted (row.in_main (row.same token.Var ∷ row.same row.x ∷ row.same token.Equal ∷ row.same row.one ∷ row.next token.Plus ∷ row.same row.one ∷ row.next row.x ∷ row.same token.LeftParen ∷ row.same row.one ∷ row.same token.RightParen ∷ [])) ≡ Ok 2 }
+    ensures plus_goes_on { row.counted
+        (row.in_main (row.same token.Var ∷ row.same row.x ∷ row.same token.Equal ∷ row.same row.one ∷ row.next token.Plus ∷ row.same row.one ∷
+        row.next row.x ∷ row.same token.LeftParen ∷ row.same row.one ∷ row.same token.RightParen ∷ [])) ≡ Ok 2 }
     // x | - 1
     ensures minus_goes_on { row.counted (row.in_main (row.same row.x ∷ row.next token.Minus ∷ row.same row.one ∷ [])) ≡ Ok 1 }
     // x | (x)
@@ -28,13 +30,18 @@ pub fn worked_rows()
     // return x
     ensures return_value { row.counted (row.in_main (row.same token.Return ∷ row.same row.x ∷ [])) ≡ Ok 1 }
     // while x {} | - 1
-    ensures minus_begins { row.counted (row.in_main (row.same token.While ∷ row.same row.x ∷ row.same token.LeftBrace ∷ row.same token.RightBrace ∷ row.next token.Minus ∷ row.same row.one ∷ [])) ≡ Ok 2 }
+    ensures minus_begins { row.counted
+        (row.in_main (row.same token.While ∷ row.same row.x ∷ row.same token.LeftBrace ∷ row.same token.RightBrace ∷ row.next token.Minus ∷
+        row.same row.one ∷ [])) ≡ Ok 2 }
     // break
     ensures break_outside { row.counted (row.in_main (row.same token.Break ∷ [])) ≡ Err 2 }
     // x < 1 < 1
-    ensures one_comparison { row.counted (row.in_main (row.same row.x ∷ row.same token.Less ∷ row.same row.one ∷ row.same token.Less ∷ row.same row.one ∷ [])) ≡ Err 3 }
+    ensures one_comparison { row.counted
+        (row.in_main (row.same row.x ∷ row.same token.Less ∷ row.same row.one ∷ row.same token.Less ∷ row.same row.one ∷ [])) ≡ Err 3 }
     // if x {} | else {}
-    ensures else_goes_on { row.counted (row.in_main (row.same token.If ∷ row.same row.x ∷ row.same token.LeftBrace ∷ row.same token.RightBrace ∷ row.next token.Else ∷ row.same token.LeftBrace ∷ row.same token.RightBrace ∷ [])) ≡ Ok 1 }
+    ensures else_goes_on { row.counted
+        (row.in_main (row.same token.If ∷ row.same row.x ∷ row.same token.LeftBrace ∷ row.same token.RightBrace ∷ row.next token.Else ∷
+        row.same token.LeftBrace ∷ row.same token.RightBrace ∷ [])) ≡ Ok 1 }
 {}
 
 /// Rows of `docs/GRAMMAR.md` at the limit on nesting: `fun main() { var x = `, so many `(`, and `1` where the row has it.

@@ -17,7 +17,8 @@ module _ (more : List Token) (total : ℕ) where
   Runs s ts (Some end) = run total s (ts ++ more) ≡ run total end more
   Runs s ts None = (left : ℕ) × (run total s (ts ++ more) ≡ Err left)
 
-  steps_on : (s s' : State) (t : Token) (ts : List Token) (end : Option State) → step s t (total - suc (length (ts ++ more))) ≡ Some s' → Runs s' ts end → Runs s (t ∷ ts) end
+  steps_on : (s s' : State) (t : Token) (ts : List Token) (end : Option State) → step s t (total - suc (length (ts ++ more))) ≡ Some s' → Runs s' ts end
+      → Runs s (t ∷ ts) end
   unfolding Runs
   steps_on s s' t ts (Some end) h r = moves total s s' t (ts ++ more) h ∙ r
   steps_on s s' t ts None h r = (r.0, moves total s s' t (ts ++ more) h ∙ r.1)
@@ -32,7 +33,8 @@ module _ (more : List Token) (total : ℕ) where
   next_is : (n a b : ℕ) → total ≡ n + b → b ≡ suc a → total ≡ suc n + a
   next_is n a b h g = omega (arith, h, g)
 
-  runs_from : (n : ℕ) (s : State) (t : Token) (ts : List Token) (o : Option State) → step s t n ≡ o → total - suc (length (ts ++ more)) ≡ n → ((s' : State) → Runs s' ts (reached (suc n) s' ts))
+  runs_from : (n : ℕ) (s : State) (t : Token) (ts : List Token) (o : Option State) → step s t n ≡ o → total - suc (length (ts ++ more)) ≡ n
+      → ((s' : State) → Runs s' ts (reached (suc n) s' ts))
       → Runs s (t ∷ ts) (reached_from o (λ s'. reached (suc n) s' ts))
   runs_from n s t ts None h place f = steps_off s t ts (ap (step s t) place ∙ h)
   runs_from n s t ts (Some s') h place f = steps_on s s' t ts (reached (suc n) s' ts) (ap (step s t) place ∙ h) (f s')
@@ -40,7 +42,9 @@ module _ (more : List Token) (total : ℕ) where
   runs : (ts : List Token) (n : ℕ) (s : State) → total ≡ n + length (ts ++ more) → Runs s ts (reached n s ts)
   unfolding reached Runs
   runs [] n s q = refl
-  runs (t ∷ ts) n s q = runs_from n s t ts (step s t n) refl (place_is n (length (ts ++ more)) (length (t ∷ ts ++ more)) q refl) (λ s'. runs ts (suc n) s' (next_is n (length (ts ++ more)) (length (t ∷ ts ++ more)) q refl))
+  runs (t ∷ ts) n s q =
+      runs_from n s t ts (step s t n) refl (place_is n (length (ts ++ more)) (length (t ∷ ts ++ more)) q refl)
+      (λ s'. runs ts (suc n) s' (next_is n (length (ts ++ more)) (length (t ∷ ts ++ more)) q refl))
 
   runs_to : (ts : List Token) (s end : State) (o : Option State) → o ≡ Some end → Runs s ts o → run total s (ts ++ more) ≡ run total end more
   unfolding Runs
@@ -60,8 +64,12 @@ pub reached_begins : (tokens : List Token) (s : State) → reached 0 initial tok
 reached_begins tokens s h =
     let more = completion s in
     let total = length (tokens ++ more) in
-    let a = completes s total in
-    (more, a.0, sound (tokens ++ more) a.0 (runs_to more total tokens initial s (reached 0 initial tokens) h (runs more total tokens 0 initial (none_before total)) ∙ a.1))
+    let a = completes s total in (
+      more,
+      a.0,
+      sound (tokens ++ more) a.0 (runs_to more total tokens initial s (reached 0 initial tokens) h
+          (runs more total tokens 0 initial (none_before total)) ∙ a.1),
+    )
 
 -- and what it stops within begins none
 pub refused_begins : (tokens : List Token) → reached 0 initial tokens ≡ None → Begins tokens → ⊥

@@ -11,17 +11,20 @@ use Rattle.hy_grammar.specs.Kinds.{Level, Infix, Is, tier, infix_of, prefix_of, 
 use Rattle.hy_grammar.specs.Nodes as node
 use Rattle.hy_grammar.specs.TypeSteps.{at_type, at_types_opened}
 use Rattle.hy_grammar.specs.OperandSteps.{no_prefixes, beginning, at_operand}
-use Rattle.hy_grammar.specs.ExprSteps.{join, extend, operate, next_operand, at_argument, at_arguments_opened, at_parts_opened, at_infix, at_postfix_end, callee, at_postfixed, at_argument_name}
+use Rattle.hy_grammar.specs.ExprSteps.{join, extend, operate, next_operand, at_argument, at_arguments_opened, at_parts_opened, at_infix, at_postfix_end}
+use Rattle.hy_grammar.specs.ExprSteps.{callee, at_postfixed, at_argument_name}
 use Rattle.hy_grammar.specs.Machine.{step, finish, accepted, go, run}
 use Rattle.hy_grammar.specs.TypeGrammar as y
 use Rattle.hy_grammar.specs.TypeGrammar.{HasType, HasTypes}
 use Rattle.hy_grammar.specs.ExprGrammar as e
-use Rattle.hy_grammar.specs.ExprGrammar.{HasPrimary, HasExprs, HasPostfix, HasSomeArgs, HasArg, HasArgs, HasUnary, HasOperand, HasOperands, HasExpr, HasChoices, MayGoOn}
-use Rattle.hy_grammar.specs.Stack.{Prefix, Tier, Tiers, Callee, Use, Spot, TypeUse, State, NoChain, OpenChain, Round, Square, ForPart, ForArgument, InExpr, ForTypePart, Operand, Operated, Valued}
+use Rattle.hy_grammar.specs.ExprGrammar.{HasPrimary, HasExprs, HasPostfix, HasSomeArgs, HasArg, HasArgs, HasUnary, HasOperand, HasOperands, HasExpr}
+use Rattle.hy_grammar.specs.ExprGrammar.{HasChoices, MayGoOn}
+use Rattle.hy_grammar.specs.Stack.{Prefix, Tier, Tiers, Callee, Use, Spot, TypeUse, State, NoChain, OpenChain, Round, Square, ForPart, ForArgument, InExpr}
+use Rattle.hy_grammar.specs.Stack.{ForTypePart, Operand, Operated, Valued}
 
 -- WHOLE RUNS
 
--- The machine goes from a state over tokens to another state, whatever stands behind.
+-- The machine goes from a state over tokens to another state, whatever stands after.
 pub record Goes (total : ℕ) (s : State) (old : List Token) (s' : State) (new : List Token) : Type 0 where
   pub same : run total s old ≡ run total s' new
   pub less : length new ≤ length old
@@ -52,7 +55,8 @@ module _ {total : ℕ} where
   stays {ts = ts} = record { same = refl; less = not_more ts }
 
   -- states that go on alike
-  pub alike : {s s' : State} {ts : List Token} → finish s total ≡ finish s' total → OnFront (λ t. (n : ℕ) → step s t n ≡ step s' t n) ts → Goes total s ts s' ts
+  pub alike : {s s' : State} {ts : List Token} → finish s total ≡ finish s' total
+      → OnFront (λ t. (n : ℕ) → step s t n ≡ step s' t n) ts → Goes total s ts s' ts
   unfolding run
   alike {ts = []} f g = record { same = ap accepted f; less = not_more [] }
   alike {ts = t ∷ ts} f g = record { same = ap (λ o. go o (λ x. run total x ts) (suc (length ts))) (g (total - suc (length ts))); less = not_more (t ∷ ts) }
@@ -101,7 +105,8 @@ mutual
   begins_choices (e.first_choice h a o b c) = ap starts_operand h
   begins_choices (e.next_choice x h i a o b c) = begins_choices x
 
-  pub begins_postfix : {primary : T.Expr} {steps : List T.Step} {to : ℕ} {old new : List Token} → HasPostfix old primary steps to new → begins starts_operand old ≡ true
+  pub begins_postfix : {primary : T.Expr} {steps : List T.Step} {to : ℕ} {old new : List Token} → HasPostfix old primary steps to new
+      → begins starts_operand old ≡ true
   begins_postfix (e.no_step x) = begins_primary x
   begins_postfix (e.member_step x d n) = begins_postfix x
   begins_postfix (e.part_step x d n) = begins_postfix x
@@ -120,7 +125,8 @@ mutual
   begins_operand (e.of_addition x) = begins_expr x
   begins_operand (e.of_multiplication x) = begins_unary x
 
-  pub begins_operands : {level : Level} {first last : T.Expr} {links : List T.Link} {old new : List Token} → HasOperands level old first links last new → begins starts_operand old ≡ true
+  pub begins_operands : {level : Level} {first last : T.Expr} {links : List T.Link} {old new : List Token} → HasOperands level old first links last new
+      → begins starts_operand old ≡ true
   begins_operands (e.one_operand x) = begins_operand x
   begins_operands (e.more_operands x i m y) = begins_operands x
 
@@ -135,7 +141,8 @@ begins_exprs (e.more_exprs x c y) = begins_exprs x
 
 -- At this token a postfix expression ends.
 abbrev pub PostfixEnds : Token → Type 0
-PostfixEnds t = (primary : T.Expr) (steps : List T.Step) (to : ℕ) (spot : Spot) → at_postfixed t.kind t primary steps to spot ≡ at_postfix_end (node.postfix primary steps to) spot t
+PostfixEnds t = (primary : T.Expr) (steps : List T.Step) (to : ℕ) (spot : Spot)
+    → at_postfixed t.kind t primary steps to spot ≡ at_postfix_end (node.postfix primary steps to) spot t
 
 abbrev pub is_step : TokenKind → Bool
 is_step k.Dot = true
@@ -143,7 +150,8 @@ is_step k.LeftParen = true
 is_step k.LeftBracket = true
 is_step _ = false
 
-pub ends_kind : (kind : TokenKind) (t : Token) (primary : T.Expr) (steps : List T.Step) (to : ℕ) (spot : Spot) → is_step kind ≡ false → at_postfixed kind t primary steps to spot ≡ at_postfix_end (node.postfix primary steps to) spot t
+pub ends_kind : (kind : TokenKind) (t : Token) (primary : T.Expr) (steps : List T.Step) (to : ℕ) (spot : Spot) → is_step kind ≡ false
+    → at_postfixed kind t primary steps to spot ≡ at_postfix_end (node.postfix primary steps to) spot t
 ends_kind k.Dot t primary steps to spot h = cc
 ends_kind k.LeftParen t primary steps to spot h = cc
 ends_kind k.LeftBracket t primary steps to spot h = cc
@@ -204,7 +212,7 @@ pub on_begins : (p : TokenKind → Bool) (P : Token → Type 0) → ((t : Token)
 on_begins p P f [] h = tt
 on_begins p P f (t ∷ ts) h = f t h
 
--- ARGUMENTS: a name with a `:` behind it is a label, and else a value
+-- ARGUMENTS: a name with a `:` after it is a label, and else a value
 
 abbrev pub is_colon : TokenKind → Bool
 is_colon k.Colon = true
@@ -250,7 +258,8 @@ mutual
   no_label_choices (e.first_choice {i = i} {old = old} h a o b y) = λ q. kind_of_name (begins is_colon old ≡ false) i.kind (ap is_name h) q
   no_label_choices (e.next_choice x h i a o b y) = no_label_choices x
 
-  pub no_label_postfix : {primary : T.Expr} {steps : List T.Step} {to : ℕ} {old new : List Token} → HasPostfix old primary steps to new → begins is_colon new ≡ false → NoLabel old
+  pub no_label_postfix : {primary : T.Expr} {steps : List T.Step} {to : ℕ} {old new : List Token} → HasPostfix old primary steps to new
+      → begins is_colon new ≡ false → NoLabel old
   no_label_postfix (e.no_step x) c = no_label_primary x c
   no_label_postfix (e.member_step x d n) c = no_label_postfix x (ap is_colon d)
   no_label_postfix (e.part_step x d n) c = no_label_postfix x (ap is_colon d)
@@ -258,7 +267,8 @@ mutual
   no_label_postfix (e.index_step x o f a y) c = no_label_postfix x (ap is_colon o)
 
   pub no_label_unary : {it : T.Expr} {old new : List Token} → HasUnary old it new → begins is_colon new ≡ false → NoLabel old
-  no_label_unary (e.prefixed {t = t} {operator = operator} {old = old} h x) c = λ q. kind_of_name (begins is_colon old ≡ false) t.kind (prefix_no_name t.kind operator h) q
+  no_label_unary (e.prefixed {t = t} {operator = operator} {old = old} h x) c =
+      λ q. kind_of_name (begins is_colon old ≡ false) t.kind (prefix_no_name t.kind operator h) q
   no_label_unary (e.marked {t = t} {old = old} h x) c = λ q. kind_of_name (begins is_colon old ≡ false) t.kind (ap is_name h) q
   no_label_unary (e.postfix x) c = no_label_postfix x c
 
@@ -269,7 +279,8 @@ mutual
   no_label_operand (e.of_addition x) c = no_label x c
   no_label_operand (e.of_multiplication x) c = no_label_unary x c
 
-  pub no_label_operands : {level : Level} {first last : T.Expr} {links : List T.Link} {old new : List Token} → HasOperands level old first links last new → begins is_colon new ≡ false → NoLabel old
+  pub no_label_operands : {level : Level} {first last : T.Expr} {links : List T.Link} {old new : List Token} → HasOperands level old first links last new
+      → begins is_colon new ≡ false → NoLabel old
   no_label_operands (e.one_operand x) c = no_label_operand x c
   no_label_operands (e.more_operands {o = o} x i m y) c = no_label_operands x (infix_no_colon o.kind _ i)
 
@@ -300,11 +311,13 @@ pub begins_args : {args : List T.Arg} {old new : List Token} → HasSomeArgs old
 begins_args (e.one_arg a) = begins_arg a
 begins_args (e.more_args h c a) = begins_args h
 
-pub round_kind : (kind : TokenKind) (t : Span) (primary : T.Expr) (steps : List T.Step) (spot : Spot) → starts_operand kind ≡ true → at_arguments_opened kind t (callee primary steps Round) spot ≡ at_argument kind t (callee primary steps Round) [] spot
+pub round_kind : (kind : TokenKind) (t : Span) (primary : T.Expr) (steps : List T.Step) (spot : Spot) → starts_operand kind ≡ true
+    → at_arguments_opened kind t (callee primary steps Round) spot ≡ at_argument kind t (callee primary steps Round) [] spot
 round_kind k.RightParen t primary steps spot h = cc
 round_kind _ t primary steps spot h = refl
 
-pub square_kind : (kind : TokenKind) (t : Span) (primary : T.Expr) (steps : List T.Step) (spot : Spot) → starts_operand kind ≡ true → at_arguments_opened kind t (callee primary steps Square) spot ≡ at_argument kind t (callee primary steps Square) [] spot
+pub square_kind : (kind : TokenKind) (t : Span) (primary : T.Expr) (steps : List T.Step) (spot : Spot) → starts_operand kind ≡ true
+    → at_arguments_opened kind t (callee primary steps Square) spot ≡ at_argument kind t (callee primary steps Square) [] spot
 square_kind k.RightBracket t primary steps spot h = cc
 square_kind _ t primary steps spot h = refl
 
@@ -384,7 +397,8 @@ on_operand level [] x = tt
 on_operand level (t ∷ ts) x = record { postfix = x.postfix; infix' = looser_operand level (infix_of t.kind) x.infix' }
 
 -- what an operand of a level is ends where the operand does
-pub as_level : (level : Level) (below : Level) (ts : List Token) → ((found : Option Infix) → OperandLooser level found → Looser below found) → OnFront (OperandEnds level) ts → OnFront (LevelEnds below) ts
+pub as_level : (level : Level) (below : Level) (ts : List Token) → ((found : Option Infix) → OperandLooser level found → Looser below found)
+    → OnFront (OperandEnds level) ts → OnFront (LevelEnds below) ts
 as_level level below [] f x = tt
 as_level level below (t ∷ ts) f x = record { postfix = x.postfix; infix' = f (infix_of t.kind) x.infix' }
 
@@ -392,9 +406,10 @@ pub as_postfix : (level : Level) (ts : List Token) → OnFront (OperandEnds leve
 as_postfix level [] x = tt
 as_postfix level (t ∷ ts) x = x.postfix
 
--- an operator of a level behind the last operand of its chain
+-- an operator of a level after the last operand of its chain
 pub operates : (level : Level) (chain d c p a : Tier) (last : T.Expr) (operator : Operator) (u : Use) (o : Token) → (level ≡ Comparison → chain ≡ NoChain)
-    → at_infix (tier level operator) last (tiers_at level chain d c p a) u o ≡ Some (Operand (InExpr no_prefixes (tiers_at level (extend chain last operator o.span) d c p a) u))
+    → at_infix (tier level operator) last (tiers_at level chain d c p a) u o ≡ Some
+    (Operand (InExpr no_prefixes (tiers_at level (extend chain last operator o.span) d c p a) u))
 operates Disjunction chain d c p a last operator u o h = refl
 operates Conjunction chain d c p a last operator u o h = refl
 operates Comparison chain d c p a last operator u o h = rw (h refl) refl
@@ -403,7 +418,8 @@ operates Multiplication chain d c p a last operator u o h = refl
 
 -- a looser operator closes the chain
 pub closes_chain : (level other : Level) (chain d c p a : Tier) (last : T.Expr) (operator : Operator) (u : Use) (t : Span) → looser other level ≡ true
-    → next_operand (operate other last operator t (tiers_at level chain d c p a)) u ≡ next_operand (operate other (join chain last) operator t (tiers_at level NoChain d c p a)) u
+    → next_operand (operate other last operator t (tiers_at level chain d c p a)) u ≡ next_operand
+    (operate other (join chain last) operator t (tiers_at level NoChain d c p a)) u
 closes_chain Conjunction Disjunction chain d c p a last operator u t h = refl
 closes_chain Comparison Disjunction chain d c p a last operator u t h = refl
 closes_chain Addition Disjunction chain d c p a last operator u t h = refl
@@ -442,7 +458,8 @@ chain_ends Multiplication None chain d c p a last u t h = refl
 chain_ends level (Some x) chain d c p a last u t h = closes_chain level x.level chain d c p a last x.operator u t.span h
 
 -- operands of a level that are read, with their open chain
-pub record ChainRead (total : ℕ) (level : Level) (old : List Token) (first : T.Expr) (links : List T.Link) (last : T.Expr) (new : List Token) (d c p a : Tier) (u : Use) : Type 0 where
+pub record ChainRead (total : ℕ) (level : Level) (old : List Token) (first : T.Expr) (links : List T.Link) (last : T.Expr) (new : List Token)
+    (d c p a : Tier) (u : Use) : Type 0 where
   pub chain : Tier
   pub goes : Goes total (Operand (InExpr no_prefixes (tiers_at level NoChain d c p a) u)) old (Operated last (tiers_at level chain d c p a) u) new
   pub joins : join chain last ≡ node.chain first links last
@@ -457,17 +474,20 @@ may_go_on Addition links m h = cc
 may_go_on Multiplication links m h = cc
 
 pub with_unary : (kind : TokenKind) (operator : UnaryOperator) (t : Span) (operators : List Prefix) (tiers : Tiers) (u : Use) → prefix_of kind ≡ Some operator
-    → at_operand kind t (InExpr (record { operators = operators; mark = None }) tiers u) ≡ Some (Operand (InExpr (record { operators = operators ++ record { operator = operator; token = t } ∷ []; mark = None }) tiers u))
+    → at_operand kind t (InExpr (record { operators = operators; mark = None }) tiers u) ≡ Some
+    (Operand (InExpr (record { operators = operators ++ record { operator = operator; token = t } ∷ []; mark = None }) tiers u))
 with_unary k.Minus operator t operators tiers u h = ap (λ o. with_operator_of o t operators tiers u) h
   where
     with_operator_of : Option UnaryOperator → Span → List Prefix → Tiers → Use → Option State
     with_operator_of None t operators tiers u = None
-    with_operator_of (Some o) t operators tiers u = Some (Operand (InExpr (record { operators = operators ++ record { operator = o; token = t } ∷ []; mark = None }) tiers u))
+    with_operator_of (Some o) t operators tiers u =
+        Some (Operand (InExpr (record { operators = operators ++ record { operator = o; token = t } ∷ []; mark = None }) tiers u))
 with_unary k.Not operator t operators tiers u h = ap (λ o. with_operator_of o t operators tiers u) h
   where
     with_operator_of : Option UnaryOperator → Span → List Prefix → Tiers → Use → Option State
     with_operator_of None t operators tiers u = None
-    with_operator_of (Some o) t operators tiers u = Some (Operand (InExpr (record { operators = operators ++ record { operator = o; token = t } ∷ []; mark = None }) tiers u))
+    with_operator_of (Some o) t operators tiers u =
+        Some (Operand (InExpr (record { operators = operators ++ record { operator = o; token = t } ∷ []; mark = None }) tiers u))
 with_unary _ operator t operators tiers u h = cc
 
 -- expressions with commas between them
@@ -497,7 +517,8 @@ pub opened_kind : (kind : TokenKind) (t o : Span) (u : TypeUse) → starts_type 
 opened_kind k.RightParen t o u h = cc
 opened_kind _ t o u h = refl
 
-pub parts_kind : (kind : TokenKind) (t o : Span) (spot : Spot) → starts_operand kind ≡ true → at_parts_opened kind t o spot ≡ at_operand kind t (beginning (ForPart o [] spot))
+pub parts_kind : (kind : TokenKind) (t o : Span) (spot : Spot) → starts_operand kind ≡ true
+    → at_parts_opened kind t o spot ≡ at_operand kind t (beginning (ForPart o [] spot))
 parts_kind k.RightParen t o spot h = cc
 parts_kind _ t o spot h = refl
 
@@ -505,7 +526,8 @@ pub every : (P : Token → Type 0) → ((t : Token) → P t) → (ts : List Toke
 every P f [] = tt
 every P f (t ∷ ts) = f t
 
-pub chain_joins : (first : T.Expr) (links : List T.Link) (operator : Operator) (token : Span) (it : T.Expr) → join (OpenChain first links operator token) it ≡ node.chain first (links ++ node.link first operator token it ∷ []) it
+pub chain_joins : (first : T.Expr) (links : List T.Link) (operator : Operator) (token : Span) (it : T.Expr)
+    → join (OpenChain first links operator token) it ≡ node.chain first (links ++ node.link first operator token it ∷ []) it
 chain_joins first links operator token it = refl
 
 pub not_empty : (links : List T.Link) (l : T.Link) (P : Type 0) → links ++ l ∷ [] ≡ [] → P

@@ -1,5 +1,6 @@
 -- Where the machine with the limit stops, and which refusal comes first.
-use Rattle.std.proofs.Common.{◌≡◌, ◌≤◌, ◌<◌, ◌+◌, ◌-◌, ◌==◌, inl, inr, cond, nat_lt, ℕ, suc, Bool, true, false, Option, Some, None, Result, Ok, Err, List, [], ◌∷◌, ◌++◌, length, drop, refl, sym, ap, subst, ◌∙◌, append_assoc, arith}
+use Rattle.std.proofs.Common.{◌≡◌, ◌≤◌, ◌<◌, ◌+◌, ◌-◌, ◌==◌, inl, inr, cond, nat_lt, ℕ, suc, Bool, true, false, Option, Some, None, Result, Ok, Err, List}
+use Rattle.std.proofs.Common.{[], ◌∷◌, ◌++◌, length, drop, refl, sym, ap, subst, ◌∙◌, append_assoc, arith}
 use Rattle.std.proofs.Math.Seq.{drop-append_seam}
 use Rattle.std.proofs.lemmas.Bool.{ltb-true, ltb-false, eqb-true, eqb-false}
 use Rattle.std.proofs.lemmas.List.{append-nil, length-append}
@@ -11,8 +12,10 @@ use Rattle.hy_lexer.specs.declared.token.Token.{Token}
 use Rattle.hy_tree.specs.Tree as T
 use Rattle.hy_grammar.specs.Completion.{completion}
 use Rattle.hy_grammar.specs.Grammar.{IsProgram}
-use Rattle.hy_grammar.specs.Machine.{step, finish, start as initial, run, accepted, Halt, Unexpected, TooDeep, most_levels, is_too_deep, go_within, accepted_within, walk}
-use Rattle.hy_grammar.specs.Parses.{Begins, reached_from, reached, Opens, Breaks, unexpected, too_short, too_deep, at_end, unexpected_at, too_deep_at, refusal_of}
+use Rattle.hy_grammar.specs.Machine.{step, finish, start as initial, run, accepted, Halt, Unexpected, TooDeep, most_levels, is_too_deep, go_within}
+use Rattle.hy_grammar.specs.Machine.{accepted_within, walk}
+use Rattle.hy_grammar.specs.Parses.{Begins, reached_from, reached, Opens, Breaks, unexpected, too_short, too_deep, at_end, unexpected_at, too_deep_at}
+use Rattle.hy_grammar.specs.Parses.{refusal_of}
 use Rattle.hy_grammar.specs.Stack.{State, FileReady, FileDone, DeclRead, depth}
 use Rattle.hy_grammar_laws.proofs.Runs.{moves, stops}
 use Rattle.hy_grammar_laws.proofs.Completes.{completes}
@@ -21,10 +24,11 @@ use Rattle.hy_grammar_laws.proofs.SoundRun.{sound}
 
 -- ---- walks
 
--- The machine goes over tokens, before which stand so many, and has at most 200 levels behind each.
+-- The machine goes over tokens, before which stand so many, and has at most 200 levels after each.
 pub data Walks : ℕ → State → List Token → State → Type 0 where
   stands : {n : ℕ} {s : State} → Walks n s [] s
-  goes_on : {n : ℕ} {s s' end : State} {t : Token} {ts : List Token} → step s t n ≡ Some s' → depth s' ≤ most_levels → Walks (suc n) s' ts end → Walks n s (t ∷ ts) end
+  goes_on : {n : ℕ} {s s' end : State} {t : Token} {ts : List Token} → step s t n ≡ Some s' → depth s' ≤ most_levels → Walks (suc n) s' ts end
+      → Walks n s (t ∷ ts) end
 
 behind_one : (total n a b : ℕ) → total ≡ n + b → b ≡ suc a → total - suc a ≡ n
 behind_one total n a b h g = omega (arith, h, g)
@@ -32,13 +36,15 @@ behind_one total n a b h g = omega (arith, h, g)
 one_on : (total n a b : ℕ) → total ≡ n + b → b ≡ suc a → total ≡ suc n + a
 one_on total n a b h g = omega (arith, h, g)
 
-walks_run : {n : ℕ} {s s' : State} {front : List Token} → Walks n s front s' → (more : List Token) (total : ℕ) → total ≡ n + length (front ++ more) → run total s (front ++ more) ≡ run total s' more
+walks_run : {n : ℕ} {s s' : State} {front : List Token} → Walks n s front s' → (more : List Token) (total : ℕ) → total ≡ n + length (front ++ more)
+    → run total s (front ++ more) ≡ run total s' more
 walks_run stands more total h = refl
 walks_run (goes_on {n = n} {s = s} {s' = s'} {t = t} {ts = ts} h le w) more total q =
     let place : total - suc (length (ts ++ more)) ≡ n = behind_one total n (length (ts ++ more)) (length (t ∷ ts ++ more)) q refl in
     moves total s s' t (ts ++ more) (ap (step s t) place ∙ h) ∙ walks_run w more total (one_on total n (length (ts ++ more)) (length (t ∷ ts ++ more)) q refl)
 
-walks_reached : {n : ℕ} {s s' : State} {front : List Token} → Walks n s front s' → (more : List Token) → reached n s (front ++ more) ≡ reached (n + length front) s' more
+walks_reached : {n : ℕ} {s s' : State} {front : List Token} → Walks n s front s' → (more : List Token)
+    → reached n s (front ++ more) ≡ reached (n + length front) s' more
 unfolding reached
 walks_reached (stands {n = n} {s = s}) more = let q : n ≡ n + length {A = Token} [] = omega arith in ap (λ z. reached z s more) q
 walks_reached (goes_on {n = n} {s = s} {s' = s'} {end = end} {t = t} {ts = ts} h le w) more =
@@ -49,7 +55,8 @@ some_state : (s s' : State) → ◌≡◌ {A = Option State} (Some s) (Some s') 
 some_state s s' h = cc
 
 -- no level too many is begun on the way
-walks_within : {n : ℕ} {s s' : State} {front : List Token} → Walks n s front s' → (before mid : List Token) (t : Token) (there : State) → front ≡ before ++ t ∷ mid → reached n s (before ++ t ∷ []) ≡ Some there → depth there ≤ most_levels
+walks_within : {n : ℕ} {s s' : State} {front : List Token} → Walks n s front s' → (before mid : List Token) (t : Token) (there : State)
+    → front ≡ before ++ t ∷ mid → reached n s (before ++ t ∷ []) ≡ Some there → depth there ≤ most_levels
 unfolding reached
 walks_within stands [] mid t there q h = let w : ⊥ = cc in absurd w
 walks_within stands (x ∷ before) mid t there q h = let w : ⊥ = cc in absurd w
@@ -68,7 +75,8 @@ data EndsWith (total place : ℕ) (s : State) : List Token → Result T.Program 
   in_program : {tree : T.Program} → finish s total ≡ Some tree → EndsWith total place s [] (Ok tree)
   in_want : finish s total ≡ None → EndsWith total place s [] (Err (Unexpected 0))
   at_wrong : {t : Token} {ts : List Token} → step s t place ≡ None → EndsWith total place s (t ∷ ts) (Err (Unexpected (length (t ∷ ts))))
-  at_deep : {s' : State} {t : Token} {ts : List Token} → step s t place ≡ Some s' → most_levels < depth s' → EndsWith total place s (t ∷ ts) (Err (TooDeep (length (t ∷ ts))))
+  at_deep : {s' : State} {t : Token} {ts : List Token} → step s t place ≡ Some s' → most_levels < depth s'
+      → EndsWith total place s (t ∷ ts) (Err (TooDeep (length (t ∷ ts))))
 
 record Walked (total n : ℕ) (s : State) (ts : List Token) (end : Result T.Program Halt) : Type 0 where
   front : List Token
@@ -94,7 +102,8 @@ is_not_more a b h = ltb-false a b h
 shift : (n a : ℕ) → suc n + a ≡ n + suc a
 shift n a = omega arith
 
-walked_on : (total n : ℕ) (s s' : State) (t : Token) (ts : List Token) (end : Result T.Program Halt) → step s t n ≡ Some s' → depth s' ≤ most_levels → Walked total (suc n) s' ts end → Walked total n s (t ∷ ts) end
+walked_on : (total n : ℕ) (s s' : State) (t : Token) (ts : List Token) (end : Result T.Program Halt) → step s t n ≡ Some s' → depth s' ≤ most_levels
+    → Walked total (suc n) s' ts end → Walked total n s (t ∷ ts) end
 walked_on total n s s' t ts end h le w = record {
   front = t ∷ w.front;
   rest = w.rest;
@@ -105,14 +114,24 @@ walked_on total n s s' t ts end h le w = record {
 }
 
 walked_stop : (total n : ℕ) (s : State) (ts : List Token) (end : Result T.Program Halt) → EndsWith total n s ts end → Walked total n s ts end
-walked_stop total n s ts end e = record { front = []; rest = ts; there = s; split = refl; walks = stands; ends = subst (λ z. EndsWith total z s ts end) (nothing_more n) e }
+walked_stop total n s ts end e = record {
+  front = [];
+  rest = ts;
+  there = s;
+  split = refl;
+  walks = stands;
+  ends =
+      subst (λ z. EndsWith total z s ts end) (nothing_more n) e;
+}
 
-walked_deep : (total n : ℕ) (s s' : State) (t : Token) (ts : List Token) (deep : Bool) → step s t n ≡ Some s' → is_too_deep s' ≡ deep → ((e : depth s' ≤ most_levels) → Walked total (suc n) s' ts (walk total s' ts))
+walked_deep : (total n : ℕ) (s s' : State) (t : Token) (ts : List Token) (deep : Bool) → step s t n ≡ Some s' → is_too_deep s' ≡ deep
+    → ((e : depth s' ≤ most_levels) → Walked total (suc n) s' ts (walk total s' ts))
     → Walked total n s (t ∷ ts) (cond deep (Err (TooDeep (suc (length ts)))) (walk total s' ts))
 walked_deep total n s s' t ts true h d f = walked_stop total n s (t ∷ ts) _ (at_deep h (is_more most_levels (depth s') d))
 walked_deep total n s s' t ts false h d f = let le = is_not_more most_levels (depth s') d in walked_on total n s s' t ts _ h le (f le)
 
-walked_go : (total n : ℕ) (s : State) (t : Token) (ts : List Token) (o : Option State) → step s t n ≡ o → ((s' : State) → Walked total (suc n) s' ts (walk total s' ts))
+walked_go : (total n : ℕ) (s : State) (t : Token) (ts : List Token) (o : Option State) → step s t n ≡ o
+    → ((s' : State) → Walked total (suc n) s' ts (walk total s' ts))
     → Walked total n s (t ∷ ts) (go_within o (λ x. walk total x ts) (suc (length ts)))
 walked_go total n s t ts None h f = walked_stop total n s (t ∷ ts) _ (at_wrong h)
 walked_go total n s t ts (Some s') h f = walked_deep total n s s' t ts (is_too_deep s') h refl (λ e. f s')
@@ -122,7 +141,8 @@ unfolding walk
 walked [] total n s q = walked_stop total n s [] _ (ends_none total n s (finish s total) refl)
 walked (t ∷ ts) total n s q =
     let place : total - suc (length ts) ≡ n = behind_one total n (length ts) (length (t ∷ ts)) q refl in
-    walked_go total n s t ts (step s t (total - suc (length ts))) (sym (ap (step s t) place)) (λ s'. walked ts total (suc n) s' (one_on total n (length ts) (length (t ∷ ts)) q refl))
+    walked_go total n s t ts (step s t (total - suc (length ts))) (sym (ap (step s t) place))
+    (λ s'. walked ts total (suc n) s' (one_on total n (length ts) (length (t ∷ ts)) q refl))
 
 -- ---- beginnings of programs
 
@@ -167,11 +187,12 @@ cut_more x y t front rest before behind e (outside mid q r) = outside mid (λ i.
 cut : (front rest before : List Token) (t : Token) (behind : List Token) → front ++ rest ≡ before ++ t ∷ behind → Cut front rest before t behind
 cut [] rest before t behind q = outside before refl q
 cut (x ∷ front) rest [] t behind q = let e : x ≡ t = cc in inside front (ap (λ z. z ∷ front) e)
-cut (x ∷ front) rest (y ∷ before) t behind q = let e : x ≡ y = cc in let r : front ++ rest ≡ before ++ t ∷ behind = cc in cut_more x y t front rest before behind e (cut front rest before t behind r)
+cut (x ∷ front) rest (y ∷ before) t behind q = let e : x ≡ y = cc in let r : front ++ rest ≡ before ++ t ∷ behind = cc in
+    cut_more x y t front rest before behind e (cut front rest before t behind r)
 
 -- ---- spans
 
--- what is behind other tokens is apart, too
+-- what is after other tokens is apart, too
 record Further (at : ℕ) (rest : List Token) (size : ℕ) : Type 0 where
   there : ℕ
   on : at ≤ there
@@ -182,7 +203,8 @@ reach a b c d h g f = omega (arith, h, g, f)
 
 further : (before rest : List Token) (at size : ℕ) → AreApart at (before ++ rest) size → Further at rest size
 further [] rest at size h = record { there = at; on = omega arith; apart = h }
-further (x ∷ before) rest at size h = let f = further before rest x.span.to size h.2 in record { there = f.there; on = reach at x.span.from x.span.to f.there h.0 h.1 f.on; apart = f.apart }
+further (x ∷ before) rest at size h = let f = further before rest x.span.to size h.2 in
+    record { there = f.there; on = reach at x.span.from x.span.to f.there h.0 h.1 f.on; apart = f.apart }
 
 in_size : (ts : List Token) (at size : ℕ) → AreApart at ts size → at ≤ size
 in_size [] at size h = h
@@ -191,7 +213,7 @@ in_size (x ∷ ts) at size h = reach at x.span.from x.span.to size h.0 h.1 (in_s
 ends_further : (a b c d : ℕ) → a ≤ b → b ≤ c → c < d → a < d
 ends_further a b c d h g f = omega (arith, h, g, f)
 
--- a token behind others ends behind them
+-- a token after others ends after them
 ends_behind : (before : List Token) (t : Token) (behind : List Token) (at size : ℕ) → AreApart at (before ++ t ∷ behind) size → at < t.span.to
 ends_behind before t behind at size h = let f = further before (t ∷ behind) at size h in ends_further at f.there t.span.from t.span.to f.on f.apart.0 f.apart.1
 
@@ -261,7 +283,7 @@ not_over to size h g = omega (arith, h, g)
 strictly : (a b : ℕ) → a ≤ b → (a ≡ b → ⊥) → a < b
 strictly a b h f = omega (arith, h, f)
 
--- at one end of all, the level too many comes behind the end of the file
+-- at one end of all, the level too many comes after the end of the file
 end_before : (span : Span) (size : ℕ) → span.from < span.to → span.to ≡ size → Precedes (record { rule = P2; span = span }) (at_end size) → ⊥
 end_before span size h g (inl x) = not_over span.to size g x
 end_before span size h g (inr (e, inl x)) = not_end span.from span.to size h g x
@@ -280,9 +302,11 @@ module _ (size : ℕ) (front : List Token) (there : State) (w : Walks 0 initial 
 
     past_wrong : (more : List Token) → reached 0 initial (front ++ t ∷ more) ≡ None
     unfolding reached
-    past_wrong more = walks_reached w (t ∷ more) ∙ ap (λ n. reached n there (t ∷ more)) (sym (from_none (length front))) ∙ ap (λ o. reached_from o (λ x. reached (suc (length front)) x more)) h
+    past_wrong more = walks_reached w (t ∷ more) ∙ ap (λ n. reached n there (t ∷ more)) (sym (from_none (length front)))
+        ∙ ap (λ o. reached_from o (λ x. reached (suc (length front)) x more)) h
 
-    not_reached : (before mid : List Token) (t' : Token) (behind : List Token) (many : ℕ) → before ≡ front ++ mid → t ∷ ts ≡ mid ++ t' ∷ behind → Opens (before ++ t' ∷ []) many → ⊥
+    not_reached : (before mid : List Token) (t' : Token) (behind : List Token) (many : ℕ) → before ≡ front ++ mid → t ∷ ts ≡ mid ++ t' ∷ behind
+        → Opens (before ++ t' ∷ []) many → ⊥
     not_reached before [] t' behind many q r o =
         let e = same_token t t' ts behind r in
         let same : before ++ t' ∷ [] ≡ front ++ t ∷ [] = (λ i. q i ++ e i ∷ []) ∙ ap (λ z. z ++ t ∷ []) (append-nil front) in
@@ -290,18 +314,23 @@ module _ (size : ℕ) (front : List Token) (there : State) (w : Walks 0 initial 
         let y = past_wrong [] in cc
     not_reached before (x ∷ mid) t' behind many q r o =
         let e : t ≡ x = cc in
-        let same : before ++ t' ∷ [] ≡ front ++ t ∷ (mid ++ t' ∷ []) = ap (λ z. z ++ t' ∷ []) q ∙ append_assoc front (x ∷ mid) (t' ∷ []) ∙ ap (λ z. front ++ z ∷ (mid ++ t' ∷ [])) (sym e) in
+        let same : before ++ t' ∷ [] ≡ front ++ t ∷ (mid ++ t' ∷ []) = ap (λ z. z ++ t' ∷ []) q ∙ append_assoc front (x ∷ mid) (t' ∷ [])
+        ∙ ap (λ z. front ++ z ∷ (mid ++ t' ∷ [])) (sym e) in
         let z : reached 0 initial (front ++ t ∷ (mid ++ t' ∷ [])) ≡ Some o.0 = sym (ap (reached 0 initial) same) ∙ o.1 in
         let y = past_wrong (mid ++ t' ∷ []) in cc
 
-    wrong_cut : (before : List Token) (t' : Token) (behind : List Token) → Cut front (t ∷ ts) before t' behind → Begins before → (Begins (before ++ t' ∷ []) → ⊥) → Precedes (record { rule = P1; span = t'.span }) (record { rule = P1; span = t.span }) → ⊥
+    wrong_cut : (before : List Token) (t' : Token) (behind : List Token) → Cut front (t ∷ ts) before t' behind → Begins before
+        → (Begins (before ++ t' ∷ []) → ⊥) → Precedes (record { rule = P1; span = t'.span }) (record { rule = P1; span = t.span }) → ⊥
     wrong_cut before t' behind (inside mid q) b nb p = nb (prefix_of_front front before mid t' q (begins_walk w))
-    wrong_cut before t' behind (outside [] q r) b nb p = not_itself (record { rule = P1; span = t.span }) (subst (λ z. Precedes (record { rule = P1; span = z.span }) (record { rule = P1; span = t.span })) (same_token t t' ts behind r) p)
+    wrong_cut before t' behind (outside [] q r) b nb p =
+        not_itself (record { rule = P1; span = t.span }) (subst (λ z. Precedes (record { rule = P1; span = z.span }) (record { rule = P1; span = t.span }))
+        (same_token t t' ts behind r) p)
     wrong_cut before t' behind (outside (x ∷ mid) q r) b nb p =
         let e : x ≡ t = cc in
         never t w h (begins_less (front ++ t ∷ []) mid (subst Begins (q ∙ ap (λ z. front ++ z ∷ mid) e ∙ sym (append_assoc front (t ∷ []) mid)) b))
 
-    wrong_deep : (before : List Token) (t' : Token) (behind : List Token) (many : ℕ) → Cut front (t ∷ ts) before t' behind → Opens (before ++ t' ∷ []) many → most_levels < many → ⊥
+    wrong_deep : (before : List Token) (t' : Token) (behind : List Token) (many : ℕ) → Cut front (t ∷ ts) before t' behind → Opens (before ++ t' ∷ []) many
+        → most_levels < many → ⊥
     wrong_deep before t' behind many (inside mid q) o lt = shallow before mid t' many q o lt
     wrong_deep before t' behind many (outside mid q r) o lt = not_reached before mid t' behind many q r o
 
@@ -353,10 +382,12 @@ module _ (size : ℕ) (front : List Token) (there : State) (w : Walks 0 initial 
 
   -- ---- a level too many
 
-  module _ (t : Token) (ts : List Token) (s' : State) (h : step there t (length front) ≡ Some s') (lt : most_levels < depth s') (apart : AreApart 0 (front ++ t ∷ ts) size) where
+  module _ (t : Token) (ts : List Token) (s' : State) (h : step there t (length front) ≡ Some s') (lt : most_levels < depth s')
+      (apart : AreApart 0 (front ++ t ∷ ts) size) where
     reached_deep : reached 0 initial (front ++ t ∷ []) ≡ Some s'
     unfolding reached
-    reached_deep = walks_reached w (t ∷ []) ∙ ap (λ n. reached n there (t ∷ [])) (sym (from_none (length front))) ∙ ap (λ o. reached_from o (λ x. reached (suc (length front)) x [])) h
+    reached_deep = walks_reached w (t ∷ []) ∙ ap (λ n. reached n there (t ∷ [])) (sym (from_none (length front)))
+        ∙ ap (λ o. reached_from o (λ x. reached (suc (length front)) x [])) h
 
     reached_front : reached 0 initial front ≡ Some there
     unfolding reached
@@ -370,7 +401,8 @@ module _ (size : ℕ) (front : List Token) (there : State) (w : Walks 0 initial 
 
     past_deep : (more : List Token) (total : ℕ) → total ≡ length (front ++ t ∷ more) → run total initial (front ++ t ∷ more) ≡ run total s' more
     past_deep more total q =
-        let place : total - suc (length more) ≡ length front = behind_one total (length front) (length more) (length (t ∷ more)) (q ∙ length-append front (t ∷ more)) refl in
+        let place : total - suc (length more) ≡ length front =
+        behind_one total (length front) (length more) (length (t ∷ more)) (q ∙ length-append front (t ∷ more)) refl in
         walks_run w (t ∷ more) total (q ∙ from_none _) ∙ moves total there s' t more (ap (step there t) place ∙ h)
 
     begins_deep : Begins (front ++ t ∷ [])
@@ -392,20 +424,27 @@ module _ (size : ℕ) (front : List Token) (there : State) (w : Walks 0 initial 
 
     -- the same place, and what stands there
     same_front : (before : List Token) (t' : Token) (behind : List Token) → before ≡ front ++ [] → t ∷ ts ≡ t' ∷ behind → front ++ t ∷ [] ≡ before ++ t' ∷ []
-    same_front before t' behind q r = let e : t ≡ t' = cc in ap (λ z. front ++ z ∷ []) e ∙ ap (λ z. z ++ t' ∷ []) (sym (append-nil front)) ∙ ap (λ z. z ++ t' ∷ []) (sym q)
+    same_front before t' behind q r = let e : t ≡ t' = cc in ap (λ z. front ++ z ∷ []) e ∙ ap (λ z. z ++ t' ∷ []) (sym (append-nil front))
+        ∙ ap (λ z. z ++ t' ∷ []) (sym q)
 
     tail_of : (x : Token) (mid : List Token) (t' : Token) (behind : List Token) → t ∷ ts ≡ (x ∷ mid) ++ t' ∷ behind → ts ≡ mid ++ t' ∷ behind
     tail_of x mid t' behind r = cc
 
-    deep_cut : (before : List Token) (t' : Token) (behind : List Token) → Cut front (t ∷ ts) before t' behind → (Begins (before ++ t' ∷ []) → ⊥) → Precedes (record { rule = P1; span = t'.span }) (record { rule = P2; span = t.span }) → ⊥
+    deep_cut : (before : List Token) (t' : Token) (behind : List Token) → Cut front (t ∷ ts) before t' behind → (Begins (before ++ t' ∷ []) → ⊥)
+        → Precedes (record { rule = P1; span = t'.span }) (record { rule = P2; span = t.span }) → ⊥
     deep_cut before t' behind (inside mid q) nb p = nb (prefix_of_front front before mid t' q (begins_walk w))
     deep_cut before t' behind (outside [] q r) nb p = nb (subst Begins (same_front before t' behind q r) begins_deep)
-    deep_cut before t' behind (outside (x ∷ mid) q r) nb p = not_before (record { rule = P2; span = t.span }) (record { rule = P1; span = t'.span }) (later mid t' behind (tail_of x mid t' behind r)) p
+    deep_cut before t' behind (outside (x ∷ mid) q r) nb p =
+        not_before (record { rule = P2; span = t.span }) (record { rule = P1; span = t'.span }) (later mid t' behind (tail_of x mid t' behind r)) p
 
-    deep_again : (before : List Token) (t' : Token) (behind : List Token) (many : ℕ) → Cut front (t ∷ ts) before t' behind → Opens (before ++ t' ∷ []) many → most_levels < many → Precedes (record { rule = P2; span = t'.span }) (record { rule = P2; span = t.span }) → ⊥
+    deep_again : (before : List Token) (t' : Token) (behind : List Token) (many : ℕ) → Cut front (t ∷ ts) before t' behind → Opens (before ++ t' ∷ []) many
+        → most_levels < many → Precedes (record { rule = P2; span = t'.span }) (record { rule = P2; span = t.span }) → ⊥
     deep_again before t' behind many (inside mid q) o l p = shallow before mid t' many q o l
-    deep_again before t' behind many (outside [] q r) o l p = not_itself (record { rule = P2; span = t.span }) (subst (λ z. Precedes (record { rule = P2; span = z.span }) (record { rule = P2; span = t.span })) (same_token t t' ts behind r) p)
-    deep_again before t' behind many (outside (x ∷ mid) q r) o l p = not_before (record { rule = P2; span = t.span }) (record { rule = P2; span = t'.span }) (later mid t' behind (tail_of x mid t' behind r)) p
+    deep_again before t' behind many (outside [] q r) o l p =
+        not_itself (record { rule = P2; span = t.span }) (subst (λ z. Precedes (record { rule = P2; span = z.span }) (record { rule = P2; span = t.span }))
+        (same_token t t' ts behind r) p)
+    deep_again before t' behind many (outside (x ∷ mid) q r) o l p =
+        not_before (record { rule = P2; span = t.span }) (record { rule = P2; span = t'.span }) (later mid t' behind (tail_of x mid t' behind r)) p
 
     deep_only : t.span.to < size → (g : Refusal) → Breaks (front ++ t ∷ ts) size g → Precedes g (record { rule = P2; span = t.span }) → ⊥
     deep_only l g (unexpected before t' behind q b nb) p = deep_cut before t' behind (cut front (t ∷ ts) before t' behind q) nb p
@@ -427,15 +466,18 @@ module _ (size : ℕ) (front : List Token) (there : State) (w : Walks 0 initial 
     last_cut before t' behind (outside [] q r) e nb = nb (subst Begins (same_front before t' behind q r) begins_deep)
     last_cut before t' behind (outside (x ∷ mid) q r) e nb = no_token mid t' behind (sym e ∙ tail_of x mid t' behind r)
 
-    last_again : (before : List Token) (t' : Token) (behind : List Token) (many : ℕ) → Cut front (t ∷ ts) before t' behind → ts ≡ [] → t.span.to ≡ size → Opens (before ++ t' ∷ []) many → most_levels < many → Precedes (record { rule = P2; span = t'.span }) (at_end size) → ⊥
+    last_again : (before : List Token) (t' : Token) (behind : List Token) (many : ℕ) → Cut front (t ∷ ts) before t' behind → ts ≡ [] → t.span.to ≡ size
+        → Opens (before ++ t' ∷ []) many → most_levels < many → Precedes (record { rule = P2; span = t'.span }) (at_end size) → ⊥
     last_again before t' behind many (inside mid q) e l o m p = shallow before mid t' many q o m
-    last_again before t' behind many (outside [] q r) e l o m p = end_before t.span size own_span.0 l (subst (λ z. Precedes (record { rule = P2; span = z.span }) (at_end size)) (same_token t t' ts behind r) p)
+    last_again before t' behind many (outside [] q r) e l o m p =
+        end_before t.span size own_span.0 l (subst (λ z. Precedes (record { rule = P2; span = z.span }) (at_end size)) (same_token t t' ts behind r) p)
     last_again before t' behind many (outside (x ∷ mid) q r) e l o m p = no_token mid t' behind (sym e ∙ tail_of x mid t' behind r)
 
     last_only : t.span.to ≡ size → ts ≡ [] → (g : Refusal) → Breaks (front ++ t ∷ ts) size g → Precedes g (at_end size) → ⊥
     last_only l e g (unexpected before t' behind q b nb) p = last_cut before t' behind (cut front (t ∷ ts) before t' behind q) e nb
     last_only l e g (too_short b np) p = not_itself (at_end size) p
-    last_only l e g (too_deep before t' behind {many = many} q o le o' m) p = last_again before t' behind many (cut front (t ∷ ts) before t' behind q) e l o' m p
+    last_only l e g (too_deep before t' behind {many = many} q o le o' m) p =
+        last_again before t' behind many (cut front (t ∷ ts) before t' behind q) e l o' m p
 
     last_is : t.span.to ≡ size → ts ≡ []
     last_is l = last_token ts size (subst (λ n. AreApart n ts size) l own_span.1)
@@ -446,7 +488,8 @@ module _ (size : ℕ) (front : List Token) (there : State) (w : Walks 0 initial 
         let same : front ++ t ∷ [] ≡ front ++ t ∷ ts = ap (λ z. front ++ t ∷ z) (sym e) in
         (too_short (subst Begins same begins_deep) (λ tree p. last_not _ refl tree (subst (λ z. IsProgram z tree) (sym same) p)), last_only l e)
 
-    at_deep_token : (last : Bool) → (t.span.to == size) ≡ last → IsFirst (Breaks (front ++ t ∷ ts) size) (Some (cond last (at_end size) (record { rule = P2; span = t.span })))
+    at_deep_token : (last : Bool) → (t.span.to == size) ≡ last
+        → IsFirst (Breaks (front ++ t ∷ ts) size) (Some (cond last (at_end size) (record { rule = P2; span = t.span })))
     at_deep_token true h = last_first (eqb-true t.span.to size h)
     at_deep_token false h = deep_first (strictly t.span.to size (in_size ts t.span.to size own_span.1) (eqb-false t.span.to size h))
 
@@ -454,7 +497,8 @@ module _ (size : ℕ) (front : List Token) (there : State) (w : Walks 0 initial 
 
   at_rest : (rest : List Token) → drop (length (front ++ rest) - length rest) (front ++ rest) ≡ rest
   at_rest rest =
-      let q : length (front ++ rest) - length rest ≡ length front = front_size (length (front ++ rest)) (length front) (length rest) (length-append front rest) in
+      let q : length (front ++ rest) - length rest ≡ length front =
+      front_size (length (front ++ rest)) (length front) (length rest) (length-append front rest) in
       ap (λ n. drop n (front ++ rest)) q ∙ drop-append_seam front rest
     where
       front_size : (a b c : ℕ) → a ≡ b + c → a - c ≡ b
@@ -463,35 +507,50 @@ module _ (size : ℕ) (front : List Token) (there : State) (w : Walks 0 initial 
   halt_is : (halt halt' : Halt) → ◌≡◌ {A = Result T.Program Halt} (Err halt) (Err halt') → halt ≡ halt'
   halt_is halt halt' h = cc
 
-  refuse_at : (rest : List Token) (halt : Halt) {end : Result T.Program Halt} → EndsWith (length (front ++ rest)) (0 + length front) there rest end → end ≡ Err halt → AreApart 0 (front ++ rest) size
+  refuse_at : (rest : List Token) (halt : Halt) {end : Result T.Program Halt} → EndsWith (length (front ++ rest)) (0 + length front) there rest end
+      → end ≡ Err halt → AreApart 0 (front ++ rest) size
       → IsFirst (Breaks (front ++ rest) size) (Some (refusal_of (front ++ rest) size halt))
   refuse_at rest halt (in_program h) e a = let q : ⊥ = cc in absurd q
-  refuse_at rest halt (in_want h) e a = subst (λ z. IsFirst (Breaks (front ++ []) size) (Some (refusal_of (front ++ []) size z))) (halt_is (Unexpected 0) halt e)
-      (subst (λ z. IsFirst (Breaks (front ++ []) size) (Some (unexpected_at size z))) (sym (at_rest [])) (subst (λ z. IsFirst (Breaks z size) (Some (at_end size))) (sym (append-nil front)) (want_first (ap (λ z. finish there (length z)) (sym (append-nil front)) ∙ h))))
-  refuse_at rest halt (at_wrong {t = t} {ts = ts} h) e a = subst (λ z. IsFirst (Breaks (front ++ t ∷ ts) size) (Some (refusal_of (front ++ t ∷ ts) size z))) (halt_is (Unexpected (length (t ∷ ts))) halt e)
-      (subst (λ z. IsFirst (Breaks (front ++ t ∷ ts) size) (Some (unexpected_at size z))) (sym (at_rest (t ∷ ts))) (wrong_first t ts (ap (step there t) (from_none (length front)) ∙ h)))
-  refuse_at rest halt (at_deep {s' = s'} {t = t} {ts = ts} h lt) e a = subst (λ z. IsFirst (Breaks (front ++ t ∷ ts) size) (Some (refusal_of (front ++ t ∷ ts) size z))) (halt_is (TooDeep (length (t ∷ ts))) halt e)
-      (subst (λ z. IsFirst (Breaks (front ++ t ∷ ts) size) (Some (too_deep_at size z))) (sym (at_rest (t ∷ ts))) (at_deep_token t ts s' (ap (step there t) (from_none (length front)) ∙ h) lt a (t.span.to == size) refl))
+  refuse_at rest halt (in_want h) e a =
+      subst (λ z. IsFirst (Breaks (front ++ []) size) (Some (refusal_of (front ++ []) size z))) (halt_is (Unexpected 0) halt e)
+      (subst (λ z. IsFirst (Breaks (front ++ []) size) (Some (unexpected_at size z))) (sym (at_rest []))
+      (subst (λ z. IsFirst (Breaks z size) (Some (at_end size))) (sym (append-nil front))
+      (want_first (ap (λ z. finish there (length z)) (sym (append-nil front)) ∙ h))))
+  refuse_at rest halt (at_wrong {t = t} {ts = ts} h) e a =
+      subst (λ z. IsFirst (Breaks (front ++ t ∷ ts) size) (Some (refusal_of (front ++ t ∷ ts) size z))) (halt_is (Unexpected (length (t ∷ ts))) halt e)
+      (subst (λ z. IsFirst (Breaks (front ++ t ∷ ts) size) (Some (unexpected_at size z))) (sym (at_rest (t ∷ ts)))
+      (wrong_first t ts (ap (step there t) (from_none (length front)) ∙ h)))
+  refuse_at rest halt (at_deep {s' = s'} {t = t} {ts = ts} h lt) e a =
+      subst (λ z. IsFirst (Breaks (front ++ t ∷ ts) size) (Some (refusal_of (front ++ t ∷ ts) size z))) (halt_is (TooDeep (length (t ∷ ts))) halt e)
+      (subst (λ z. IsFirst (Breaks (front ++ t ∷ ts) size) (Some (too_deep_at size z))) (sym (at_rest (t ∷ ts)))
+      (at_deep_token t ts s' (ap (step there t) (from_none (length front)) ∙ h) lt a (t.span.to == size) refl))
 
-  accept_at : (rest : List Token) (tree : T.Program) {end : Result T.Program Halt} → EndsWith (length (front ++ rest)) (0 + length front) there rest end → end ≡ Ok tree → IsFirst (Breaks (front ++ rest) size) None × IsProgram (front ++ rest) tree
+  accept_at : (rest : List Token) (tree : T.Program) {end : Result T.Program Halt} → EndsWith (length (front ++ rest)) (0 + length front) there rest end
+      → end ≡ Ok tree → IsFirst (Breaks (front ++ rest) size) None × IsProgram (front ++ rest) tree
   accept_at rest tree (in_program {tree = found} h) e =
       let q : found ≡ tree = cc in
-      subst (λ z. IsFirst (Breaks z size) None × IsProgram z tree) (sym (append-nil front)) (program_first tree (ap (λ z. finish there (length z)) (sym (append-nil front)) ∙ h ∙ ap Some q))
+      subst (λ z. IsFirst (Breaks z size) None × IsProgram z tree) (sym (append-nil front))
+      (program_first tree (ap (λ z. finish there (length z)) (sym (append-nil front)) ∙ h ∙ ap Some q))
   accept_at rest tree (in_want h) e = let q : ⊥ = cc in absurd q
   accept_at rest tree (at_wrong h) e = let q : ⊥ = cc in absurd q
   accept_at rest tree (at_deep h lt) e = let q : ⊥ = cc in absurd q
 
 -- where the machine stops, its refusal is the first
-pub refuses : (tokens : List Token) (size : ℕ) (halt : Halt) → AreApart 0 tokens size → walk (length tokens) initial tokens ≡ Err halt → IsFirst (Breaks tokens size) (Some (refusal_of tokens size halt))
+pub refuses : (tokens : List Token) (size : ℕ) (halt : Halt) → AreApart 0 tokens size → walk (length tokens) initial tokens ≡ Err halt
+    → IsFirst (Breaks tokens size) (Some (refusal_of tokens size halt))
 refuses tokens size halt apart h =
     let x = walked tokens (length tokens) 0 initial (from_none (length tokens)) in
     let back = sym x.split in
     subst (λ z. IsFirst (Breaks z size) (Some (refusal_of z size halt))) back
-    (refuse_at size x.front x.there x.walks x.rest halt (subst (λ z. EndsWith (length z) (0 + length x.front) x.there x.rest (walk (length tokens) initial tokens)) x.split x.ends) h (subst (λ z. AreApart 0 z size) x.split apart))
+    (refuse_at size x.front x.there x.walks x.rest halt
+    (subst (λ z. EndsWith (length z) (0 + length x.front) x.there x.rest (walk (length tokens) initial tokens)) x.split x.ends) h
+    (subst (λ z. AreApart 0 z size) x.split apart))
 
 -- where it accepts, nothing is broken
-pub accepts : (tokens : List Token) (size : ℕ) (tree : T.Program) → AreApart 0 tokens size → walk (length tokens) initial tokens ≡ Ok tree → IsFirst (Breaks tokens size) None × IsProgram tokens tree
+pub accepts : (tokens : List Token) (size : ℕ) (tree : T.Program) → AreApart 0 tokens size → walk (length tokens) initial tokens ≡ Ok tree
+    → IsFirst (Breaks tokens size) None × IsProgram tokens tree
 accepts tokens size tree apart h =
     let x = walked tokens (length tokens) 0 initial (from_none (length tokens)) in
     subst (λ z. IsFirst (Breaks z size) None × IsProgram z tree) (sym x.split)
-    (accept_at size x.front x.there x.walks x.rest tree (subst (λ z. EndsWith (length z) (0 + length x.front) x.there x.rest (walk (length tokens) initial tokens)) x.split x.ends) h)
+    (accept_at size x.front x.there x.walks x.rest tree
+    (subst (λ z. EndsWith (length z) (0 + length x.front) x.there x.rest (walk (length tokens) initial tokens)) x.split x.ends) h)

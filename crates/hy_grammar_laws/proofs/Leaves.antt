@@ -11,14 +11,22 @@ use Rattle.hy_tree.specs.declared.operator.Introducer.{Introducer}
 use Rattle.hy_tree.specs.declared.operator.Mode.{Mode}
 use Rattle.hy_grammar.specs.Kinds.{infix_of, Disjunction}
 use Rattle.hy_grammar.specs.Nodes as node
-use Rattle.hy_grammar.specs.Completion.{mark, a_name, leave_home, leave_sort, leave_params, leave_head, leave_body, leave_place, closing, a_choice, leave_use, leave_spot, leave_type}
+use Rattle.hy_grammar.specs.Completion.{mark, a_name, leave_home, leave_sort, leave_params, leave_head, leave_body, leave_place, closing, a_choice}
+use Rattle.hy_grammar.specs.Completion.{leave_use, leave_spot, leave_type}
 use Rattle.hy_grammar.specs.DeclSteps.{decl_of, owner_read, member_of, method_body, body_opened}
 use Rattle.hy_grammar.specs.ExprSteps.{operand_of, joined, with_arguments, callee}
 use Rattle.hy_grammar.specs.Machine.{step, finish, run}
 use Rattle.hy_grammar.specs.OperandSteps.{beginning}
 use Rattle.hy_grammar.specs.StmtSteps.{callable_of, called_in, bodied, close}
 use Rattle.hy_grammar.specs.TypeSteps.{with_result, typed}
-use Rattle.hy_grammar.specs.Stack.{Start, Owner, Home, Sort, Head, Body, Prefixes, Tiers, Brackets, Callee, Place, Use, Spot, TypeUse, State, TraitOwner, ListedOwner, InFile, InOwner, FileFunction, Method, Requirement, Subscript, Deinit, PlainBody, VariantBody, Round, Square, InBody, InBranch, InElse, InLoop, ForTarget, ForBinding, ForAssigned, ForCompound, ForDiscard, ForReturn, ForYield, ForBranch, ForLoop, ForPart, ForElement, ForArgument, ForCondition, ForChoice, ForOtherwise, InExpr, ForElementType, ForTypePart, ForEmptyArray, ForVariable, ForParam, ForResult, ForField, FileReady, FileDone, DeclRead, MembersReady, MembersDone, MemberRead, ParamsOpened, ParamRead, ParamsRead, EffectRead, ResultRead, BodyOpened, VariantsRead, BlockOpened, StmtRead, BindingType, BranchRead, Operand, Postfixed, Valued, ArgumentsRead, ArrayType, ArrayClosed, ArrayOpened, ChoiceRead, ChoiceElse, TypeWanted, ArrayTypeElement, TypesRead}
+use Rattle.hy_grammar.specs.Stack.{Start, Owner, Home, Sort, Head, Body, Prefixes, Tiers, Brackets, Callee, Place, Use, Spot, TypeUse, State, TraitOwner}
+use Rattle.hy_grammar.specs.Stack.{ListedOwner, InFile, InOwner, FileFunction, Method, Requirement, Subscript, Deinit, PlainBody, VariantBody, Round}
+use Rattle.hy_grammar.specs.Stack.{Square, InBody, InBranch, InElse, InLoop, ForTarget, ForBinding, ForAssigned, ForCompound, ForDiscard, ForReturn}
+use Rattle.hy_grammar.specs.Stack.{ForYield, ForBranch, ForLoop, ForPart, ForElement, ForArgument, ForCondition, ForChoice, ForOtherwise, InExpr}
+use Rattle.hy_grammar.specs.Stack.{ForElementType, ForTypePart, ForEmptyArray, ForVariable, ForParam, ForResult, ForField, FileReady, FileDone, DeclRead}
+use Rattle.hy_grammar.specs.Stack.{MembersReady, MembersDone, MemberRead, ParamsOpened, ParamRead, ParamsRead, EffectRead, ResultRead, BodyOpened}
+use Rattle.hy_grammar.specs.Stack.{VariantsRead, BlockOpened, StmtRead, BindingType, BranchRead, Operand, Postfixed, Valued, ArgumentsRead, ArrayType}
+use Rattle.hy_grammar.specs.Stack.{ArrayClosed, ArrayOpened, ChoiceRead, ChoiceElse, TypeWanted, ArrayTypeElement, TypesRead}
 use Rattle.hy_grammar_laws.proofs.Runs.{moves, alike, ends}
 
 module _ (total : ℕ) where
@@ -28,7 +36,8 @@ module _ (total : ℕ) where
   pub over : (s s' : State) (t : Token) (ts : List Token) → step s t (total - suc (length ts)) ≡ Some s' → Done s' ts → Done s (t ∷ ts)
   over s s' t ts h d = (d.0, moves total s s' t ts h ∙ d.1)
 
-  pub like : (s s' : State) (t : Token) (ts : List Token) → step s t (total - suc (length ts)) ≡ step s' t (total - suc (length ts)) → Done s' (t ∷ ts) → Done s (t ∷ ts)
+  pub like : (s s' : State) (t : Token) (ts : List Token) → step s t (total - suc (length ts)) ≡ step s' t (total - suc (length ts)) → Done s' (t ∷ ts)
+      → Done s (t ∷ ts)
   like s s' t ts h d = (d.0, alike total s s' t ts h ∙ d.1)
 
   -- DECLARATIONS AND MEMBERS
@@ -49,7 +58,8 @@ module _ (total : ℕ) where
   owner_done (TraitOwner o name) members close = decl_done _ _ _ _
   owner_done (ListedOwner o subject traits) members close = decl_done _ _ _ _
 
-  pub member_done : (owner : Owner) (members : List T.Member) (start : Start) (kind : T.MemberKind) (to : ℕ) → Done (MemberRead owner members start kind to) (mark k.RightBrace ∷ [])
+  pub member_done : (owner : Owner) (members : List T.Member) (start : Start) (kind : T.MemberKind) (to : ℕ)
+      → Done (MemberRead owner members start kind to) (mark k.RightBrace ∷ [])
   unfolding step
   member_done owner members start kind to = over _ _ _ _ refl (owner_done owner _ _)
 
@@ -66,7 +76,8 @@ module _ (total : ℕ) where
   called_done (InFile decls) head variants to = decl_done _ _ _ _
   called_done (InOwner owner members) head variants to = member_done _ _ _ _ _
 
-  pub variants_done : (head : Head) (brace : Span) (variants : List T.Variant) → Done (VariantsRead head brace variants) (mark k.RightBrace ∷ leave_home head.home)
+  pub variants_done : (head : Head) (brace : Span) (variants : List T.Variant)
+      → Done (VariantsRead head brace variants) (mark k.RightBrace ∷ leave_home head.home)
   unfolding step
   variants_done head brace variants = over _ _ _ _ refl (called_done head.home head variants _)
 
@@ -77,24 +88,28 @@ module _ (total : ℕ) where
 
   -- STATEMENTS
 
-  -- what goes on at a brace as behind a statement
+  -- what goes on at a brace as after a statement
   abbrev pub LikeRead : State → List T.Stmt → Place → Type 0
   LikeRead s ss place = (n : ℕ) → step s (mark k.RightBrace) n ≡ step (StmtRead ss place) (mark k.RightBrace) n
 
   pub like_read : (ss : List T.Stmt) (place : Place) → LikeRead (StmtRead ss place) ss place
   like_read ss place n = refl
 
-  pub branch_like : (from : ℕ) (branches : List T.Branch) (to : ℕ) (before : List T.Stmt) (place : Place) → LikeRead (BranchRead from branches to before place) (before ++ node.if_only from branches to ∷ []) place
+  pub branch_like : (from : ℕ) (branches : List T.Branch) (to : ℕ) (before : List T.Stmt) (place : Place)
+      → LikeRead (BranchRead from branches to before place) (before ++ node.if_only from branches to ∷ []) place
   unfolding step
   branch_like from branches to before place n = refl
 
-  pub to_body : (s : State) (ss : List T.Stmt) (body : Body) (brace : Span) (ts : List Token) → LikeRead s ss (InBody body brace) → Done (bodied (node.block brace ss (mark k.RightBrace).span) body) ts → Done s (mark k.RightBrace ∷ ts)
+  pub to_body : (s : State) (ss : List T.Stmt) (body : Body) (brace : Span) (ts : List Token) → LikeRead s ss (InBody body brace)
+      → Done (bodied (node.block brace ss (mark k.RightBrace).span) body) ts → Done s (mark k.RightBrace ∷ ts)
   unfolding step
   to_body s ss body brace ts l d = over _ _ _ _ (l _) d
 
-  pub to_branch : (s : State) (ss : List T.Stmt) (from : ℕ) (branches : List T.Branch) (word : Span) (condition : T.Expr) (brace : Span) (before : List T.Stmt) (place : Place) (ts : List Token)
+  pub to_branch : (s : State) (ss : List T.Stmt) (from : ℕ) (branches : List T.Branch) (word : Span) (condition : T.Expr) (brace : Span)
+      (before : List T.Stmt) (place : Place) (ts : List Token)
       → LikeRead s ss (InBranch from branches word condition brace before place)
-      → Done (BranchRead from (branches ++ node.branch word condition (node.block brace ss (mark k.RightBrace).span) ∷ []) (node.block_to (node.block brace ss (mark k.RightBrace).span)) before place) ts → Done s (mark k.RightBrace ∷ ts)
+      → Done (BranchRead from (branches ++ node.branch word condition (node.block brace ss (mark k.RightBrace).span) ∷ [])
+      (node.block_to (node.block brace ss (mark k.RightBrace).span)) before place) ts → Done s (mark k.RightBrace ∷ ts)
   unfolding step
   to_branch s ss from branches word condition brace before place ts l d = over _ _ _ _ (l _) d
 
@@ -113,7 +128,8 @@ module _ (total : ℕ) where
   pub closes : (place : Place) (s : State) (ss : List T.Stmt) → LikeRead s ss place → Done s (leave_place place)
   unfolding leave_place
   closes (InBody body brace) s ss l = to_body s ss body brace _ l (body_done body _)
-  closes (InBranch from branches word condition brace before place) s ss l = to_branch s ss from branches word condition brace before place _ l (closes place _ _ (branch_like _ _ _ _ place))
+  closes (InBranch from branches word condition brace before place) s ss l =
+      to_branch s ss from branches word condition brace before place _ l (closes place _ _ (branch_like _ _ _ _ place))
   closes (InElse from branches brace before place) s ss l = to_else s ss from branches brace before place _ l (closes place _ _ (like_read _ place))
   closes (InLoop word condition brace before place) s ss l = to_loop s ss word condition brace before place _ l (closes place _ _ (like_read _ place))
 
@@ -122,7 +138,8 @@ module _ (total : ℕ) where
   -- At a token of this kind a postfix expression ends, and with it the whole.
   abbrev pub Ends : TokenKind → Type 0
   Ends kind = (primary : T.Expr) (steps : List T.Step) (to : ℕ) (prefixes : Prefixes) (tiers : Tiers) (u : Use) (n : ℕ)
-      → step (Postfixed primary steps to (InExpr prefixes tiers u)) (mark kind) n ≡ step (Valued (joined Disjunction (operand_of prefixes (node.postfix primary steps to)) tiers) u) (mark kind) n
+      → step (Postfixed primary steps to (InExpr prefixes tiers u)) (mark kind) n ≡ step
+      (Valued (joined Disjunction (operand_of prefixes (node.postfix primary steps to)) tiers) u) (mark kind) n
 
   pub brace_ends : Ends k.RightBrace
   unfolding step
@@ -151,7 +168,8 @@ module _ (total : ℕ) where
   pub begins_place : (place : Place) → Begins (leave_place place)
   unfolding leave_place
   begins_place (InBody body brace) = record { kind = k.RightBrace; more = _; are = refl; ends_there = brace_ends; no_operator = refl }
-  begins_place (InBranch from branches word condition brace before place) = record { kind = k.RightBrace; more = _; are = refl; ends_there = brace_ends; no_operator = refl }
+  begins_place (InBranch from branches word condition brace before place) =
+      record { kind = k.RightBrace; more = _; are = refl; ends_there = brace_ends; no_operator = refl }
   begins_place (InElse from branches brace before place) = record { kind = k.RightBrace; more = _; are = refl; ends_there = brace_ends; no_operator = refl }
   begins_place (InLoop word condition brace before place) = record { kind = k.RightBrace; more = _; are = refl; ends_there = brace_ends; no_operator = refl }
 
@@ -178,40 +196,48 @@ module _ (total : ℕ) where
   begins_use (ForOtherwise from choices spot) = record { kind = k.RightBrace; more = _; are = refl; ends_there = brace_ends; no_operator = refl }
 
   pub to_valued : (primary : T.Expr) (steps : List T.Step) (to : ℕ) (prefixes : Prefixes) (tiers : Tiers) (u : Use) (ts : List Token) → Begins ts
-      → Done (Valued (joined Disjunction (operand_of prefixes (node.postfix primary steps to)) tiers) u) ts → Done (Postfixed primary steps to (InExpr prefixes tiers u)) ts
+      → Done (Valued (joined Disjunction (operand_of prefixes (node.postfix primary steps to)) tiers) u) ts
+      → Done (Postfixed primary steps to (InExpr prefixes tiers u)) ts
   to_valued primary steps to prefixes tiers u ts b d =
       let e = b.are in
-      let d' : Done (Valued (joined Disjunction (operand_of prefixes (node.postfix primary steps to)) tiers) u) (mark b.kind ∷ b.more) = (d.0, sym (ap (run total _) e) ∙ d.1) in
+      let d' : Done (Valued (joined Disjunction (operand_of prefixes (node.postfix primary steps to)) tiers) u) (mark b.kind ∷ b.more) =
+      (d.0, sym (ap (run total _) e) ∙ d.1) in
       let l = like (Postfixed primary steps to (InExpr prefixes tiers u)) _ (mark b.kind) b.more (b.ends_there primary steps to prefixes tiers u _) d' in
       (l.0, ap (run total _) e ∙ l.1)
 
-  -- all that is behind the value of an operand of this spot
+  -- all that is after the value of an operand of this spot
   abbrev pub Leaves : Spot → Type 0
   Leaves spot = (primary : T.Expr) (steps : List T.Step) (to : ℕ) → Done (Postfixed primary steps to spot) (leave_spot spot)
 
-  pub part_done : (e : T.Expr) (bracket : Span) (es : List T.Expr) (spot : Spot) (ts : List Token) → ((primary : T.Expr) → Done (Postfixed primary [] 0 spot) ts) → Done (Valued e (ForPart bracket es spot)) (mark k.RightParen ∷ ts)
+  pub part_done : (e : T.Expr) (bracket : Span) (es : List T.Expr) (spot : Spot) (ts : List Token)
+      → ((primary : T.Expr) → Done (Postfixed primary [] 0 spot) ts) → Done (Valued e (ForPart bracket es spot)) (mark k.RightParen ∷ ts)
   unfolding step
   part_done e bracket es spot ts d = over _ _ _ _ refl (d _)
 
-  pub element_done : (e : T.Expr) (bracket : Span) (es : List T.Expr) (spot : Spot) (ts : List Token) → ((primary : T.Expr) → Done (Postfixed primary [] 0 spot) ts) → Done (Valued e (ForElement bracket es spot)) (mark k.RightBracket ∷ ts)
+  pub element_done : (e : T.Expr) (bracket : Span) (es : List T.Expr) (spot : Spot) (ts : List Token)
+      → ((primary : T.Expr) → Done (Postfixed primary [] 0 spot) ts) → Done (Valued e (ForElement bracket es spot)) (mark k.RightBracket ∷ ts)
   unfolding step
   element_done e bracket es spot ts d = over _ _ _ _ refl (d _)
 
   -- arguments that are read
-  pub arguments_done : (brackets : Brackets) (callee : Callee) (args : List T.Arg) (spot : Spot) → callee.brackets ≡ brackets → Leaves spot → Done (ArgumentsRead callee args spot) (closing brackets ∷ leave_spot spot)
+  pub arguments_done : (brackets : Brackets) (callee : Callee) (args : List T.Arg) (spot : Spot) → callee.brackets ≡ brackets → Leaves spot
+      → Done (ArgumentsRead callee args spot) (closing brackets ∷ leave_spot spot)
   unfolding step
   arguments_done Round callee args spot h d = over _ (with_arguments callee args (mark k.RightParen).span spot) _ _ (rw (h, step) refl) (d _ _ _)
   arguments_done Square callee args spot h d = over _ (with_arguments callee args (mark k.RightBracket).span spot) _ _ (rw (h, step) refl) (d _ _ _)
 
-  pub argument_like : (e : T.Expr) (callee : Callee) (args : List T.Arg) (label : Option (List ℕ)) (spot : Spot) (t : Token) (n : ℕ) → step (Valued e (ForArgument callee args label spot)) t n ≡ step (ArgumentsRead callee (args ++ node.arg label e ∷ []) spot) t n
+  pub argument_like : (e : T.Expr) (callee : Callee) (args : List T.Arg) (label : Option (List ℕ)) (spot : Spot) (t : Token) (n : ℕ)
+      → step (Valued e (ForArgument callee args label spot)) t n ≡ step (ArgumentsRead callee (args ++ node.arg label e ∷ []) spot) t n
   unfolding step
   argument_like e callee args label spot t n = refl
 
-  pub argument_done : (e : T.Expr) (callee : Callee) (args : List T.Arg) (label : Option (List ℕ)) (spot : Spot) → Leaves spot → Done (Valued e (ForArgument callee args label spot)) (closing callee.brackets ∷ leave_spot spot)
+  pub argument_done : (e : T.Expr) (callee : Callee) (args : List T.Arg) (label : Option (List ℕ)) (spot : Spot) → Leaves spot
+      → Done (Valued e (ForArgument callee args label spot)) (closing callee.brackets ∷ leave_spot spot)
   argument_done e callee args label spot d = like _ _ _ _ (argument_like e callee args label spot _ _) (arguments_done callee.brackets callee _ spot refl d)
 
   -- the values of an `if`
-  pub last_done : (e : T.Expr) (from : ℕ) (choices : List T.Choice) (spot : Spot) → Leaves spot → Done (Valued e (ForOtherwise from choices spot)) (mark k.RightBrace ∷ leave_spot spot)
+  pub last_done : (e : T.Expr) (from : ℕ) (choices : List T.Choice) (spot : Spot) → Leaves spot
+      → Done (Valued e (ForOtherwise from choices spot)) (mark k.RightBrace ∷ leave_spot spot)
   unfolding step
   last_done e from choices spot d = over _ _ _ _ refl (d _ _ _)
 
@@ -223,7 +249,8 @@ module _ (total : ℕ) where
   pub before_brace : (ts : List Token) → Begins (mark k.RightBrace ∷ ts)
   before_brace ts = record { kind = k.RightBrace; more = ts; are = refl; ends_there = brace_ends; no_operator = refl }
 
-  pub otherwise_done : (from : ℕ) (choices : List T.Choice) (spot : Spot) → Leaves spot → Done (ChoiceElse from choices spot) (mark k.LeftBrace ∷ a_name ∷ mark k.RightBrace ∷ leave_spot spot)
+  pub otherwise_done : (from : ℕ) (choices : List T.Choice) (spot : Spot) → Leaves spot
+      → Done (ChoiceElse from choices spot) (mark k.LeftBrace ∷ a_name ∷ mark k.RightBrace ∷ leave_spot spot)
   unfolding step
   otherwise_done from choices spot d = over _ _ _ _ refl (name_done _ _ (before_brace _) (λ e. last_done e from choices spot d))
 
@@ -231,22 +258,33 @@ module _ (total : ℕ) where
   unfolding step
   choices_done from choices spot d = over _ _ _ _ refl (otherwise_done from choices spot d)
 
-  pub choice_done : (e : T.Expr) (from : ℕ) (choices : List T.Choice) (word : Span) (condition : T.Expr) (spot : Spot) → Leaves spot → Done (Valued e (ForChoice from choices word condition spot)) (mark k.RightBrace ∷ a_choice (leave_spot spot))
+  pub choice_done : (e : T.Expr) (from : ℕ) (choices : List T.Choice) (word : Span) (condition : T.Expr) (spot : Spot) → Leaves spot
+      → Done (Valued e (ForChoice from choices word condition spot)) (mark k.RightBrace ∷ a_choice (leave_spot spot))
   unfolding step
   choice_done e from choices word condition spot d = over _ _ _ _ refl (choices_done from _ spot d)
 
-  pub condition_done : (e : T.Expr) (from : ℕ) (choices : List T.Choice) (word : Span) (spot : Spot) → Leaves spot → Done (Valued e (ForCondition from choices word spot)) (mark k.LeftBrace ∷ a_name ∷ mark k.RightBrace ∷ a_choice (leave_spot spot))
+  pub condition_done : (e : T.Expr) (from : ℕ) (choices : List T.Choice) (word : Span) (spot : Spot) → Leaves spot
+      → Done (Valued e (ForCondition from choices word spot)) (mark k.LeftBrace ∷ a_name ∷ mark k.RightBrace ∷ a_choice (leave_spot spot))
   unfolding step
   condition_done e from choices word spot d = over _ _ _ _ refl (name_done _ _ (before_brace _) (λ v. choice_done v from choices word e spot d))
 
-  -- an empty block behind a condition
-  pub branch_done : (e : T.Expr) (from : ℕ) (branches : List T.Branch) (word : Span) (before : List T.Stmt) (place : Place) → Done (Valued e (ForBranch from branches word before place)) (mark k.LeftBrace ∷ mark k.RightBrace ∷ leave_place place)
+  -- an empty block after a condition
+  pub branch_done : (e : T.Expr) (from : ℕ) (branches : List T.Branch) (word : Span) (before : List T.Stmt) (place : Place)
+      → Done (Valued e (ForBranch from branches word before place)) (mark k.LeftBrace ∷ mark k.RightBrace ∷ leave_place place)
   unfolding step
-  branch_done e from branches word before place = over _ (BlockOpened (InBranch from branches word e (mark k.LeftBrace).span before place)) _ _ refl (over _ _ _ _ refl (closes place _ _ (branch_like from (branches ++ node.branch word e (node.block (mark k.LeftBrace).span [] (mark k.RightBrace).span) ∷ []) _ before place)))
+  branch_done e from branches word before place =
+      over _ (BlockOpened (InBranch from branches word e (mark k.LeftBrace).span before place)) _ _ refl
+      (over _ _ _ _ refl
+      (closes place _ _ (branch_like from (branches ++ node.branch word e (node.block (mark k.LeftBrace).span [] (mark k.RightBrace).span) ∷ []) _ before
+      place)))
 
-  pub loop_done : (e : T.Expr) (word : Span) (before : List T.Stmt) (place : Place) → Done (Valued e (ForLoop word before place)) (mark k.LeftBrace ∷ mark k.RightBrace ∷ leave_place place)
+  pub loop_done : (e : T.Expr) (word : Span) (before : List T.Stmt) (place : Place)
+      → Done (Valued e (ForLoop word before place)) (mark k.LeftBrace ∷ mark k.RightBrace ∷ leave_place place)
   unfolding step
-  loop_done e word before place = over _ (BlockOpened (InLoop word e (mark k.LeftBrace).span before place)) _ _ refl (over _ _ _ _ refl (closes place _ _ (like_read (before ++ node.while word e (node.block (mark k.LeftBrace).span [] (mark k.RightBrace).span) ∷ []) place)))
+  loop_done e word before place =
+      over _ (BlockOpened (InLoop word e (mark k.LeftBrace).span before place)) _ _ refl
+      (over _ _ _ _ refl
+      (closes place _ _ (like_read (before ++ node.while word e (node.block (mark k.LeftBrace).span [] (mark k.RightBrace).span) ∷ []) place)))
 
   pub target_like : (e : T.Expr) (before : List T.Stmt) (place : Place) → LikeRead (Valued e (ForTarget before place)) (before ++ node.evaluate e ∷ []) place
   unfolding step
@@ -257,23 +295,28 @@ module _ (total : ℕ) where
   unfolding step
   binding_like e introducer word name written before place n = refl
 
-  pub assigned_like : (e target : T.Expr) (before : List T.Stmt) (place : Place) → LikeRead (Valued e (ForAssigned target before place)) (before ++ node.assign target e ∷ []) place
+  pub assigned_like : (e target : T.Expr) (before : List T.Stmt) (place : Place)
+      → LikeRead (Valued e (ForAssigned target before place)) (before ++ node.assign target e ∷ []) place
   unfolding step
   assigned_like e target before place n = refl
 
-  pub compound_like : (e target : T.Expr) (operator : Arithmetic) (before : List T.Stmt) (place : Place) → LikeRead (Valued e (ForCompound target operator before place)) (before ++ node.compound target operator e ∷ []) place
+  pub compound_like : (e target : T.Expr) (operator : Arithmetic) (before : List T.Stmt) (place : Place)
+      → LikeRead (Valued e (ForCompound target operator before place)) (before ++ node.compound target operator e ∷ []) place
   unfolding step
   compound_like e target operator before place n = refl
 
-  pub discard_like : (e : T.Expr) (word : Span) (before : List T.Stmt) (place : Place) → LikeRead (Valued e (ForDiscard word before place)) (before ++ node.discard word e ∷ []) place
+  pub discard_like : (e : T.Expr) (word : Span) (before : List T.Stmt) (place : Place)
+      → LikeRead (Valued e (ForDiscard word before place)) (before ++ node.discard word e ∷ []) place
   unfolding step
   discard_like e word before place n = refl
 
-  pub return_like : (e : T.Expr) (word : Span) (before : List T.Stmt) (place : Place) → LikeRead (Valued e (ForReturn word before place)) (before ++ node.return_value word e ∷ []) place
+  pub return_like : (e : T.Expr) (word : Span) (before : List T.Stmt) (place : Place)
+      → LikeRead (Valued e (ForReturn word before place)) (before ++ node.return_value word e ∷ []) place
   unfolding step
   return_like e word before place n = refl
 
-  pub yield_like : (e : T.Expr) (word : Span) (before : List T.Stmt) (place : Place) → LikeRead (Valued e (ForYield word before place)) (before ++ node.yield_value word e ∷ []) place
+  pub yield_like : (e : T.Expr) (word : Span) (before : List T.Stmt) (place : Place)
+      → LikeRead (Valued e (ForYield word before place)) (before ++ node.yield_value word e ∷ []) place
   unfolding step
   yield_like e word before place n = refl
 
@@ -335,11 +378,15 @@ module _ (total : ℕ) where
 
   -- what a state does at the tokens in place of the body
   pub record Bodies (s : State) (head : Head) : Type 0 where
-    pub body : (sort : Sort) → head.sort ≡ sort → (sort ≡ Requirement → ⊥) → (n : ℕ) → step s (mark k.LeftBrace) n ≡ Some (body_opened sort head (mark k.LeftBrace).span)
-    pub file : head.sort ≡ Requirement → (decls : List T.Decl) → head.home ≡ InFile decls → (n : ℕ) → (decls' : List T.Decl) × (step s (mark k.Semicolon) n ≡ Some (FileReady decls' 0))
-    pub owner : head.sort ≡ Requirement → (owner : Owner) (members : List T.Member) → head.home ≡ InOwner owner members → (n : ℕ) → (members' : List T.Member) × (step s (mark k.Semicolon) n ≡ Some (MembersReady owner members'))
+    pub body : (sort : Sort) → head.sort ≡ sort → (sort ≡ Requirement → ⊥) → (n : ℕ)
+        → step s (mark k.LeftBrace) n ≡ Some (body_opened sort head (mark k.LeftBrace).span)
+    pub file : head.sort ≡ Requirement → (decls : List T.Decl) → head.home ≡ InFile decls → (n : ℕ) → (decls' : List T.Decl)
+        × (step s (mark k.Semicolon) n ≡ Some (FileReady decls' 0))
+    pub owner : head.sort ≡ Requirement → (owner : Owner) (members : List T.Member) → head.home ≡ InOwner owner members → (n : ℕ)
+        → (members' : List T.Member) × (step s (mark k.Semicolon) n ≡ Some (MembersReady owner members'))
 
-  pub requirement_done : (home : Home) (s : State) (head : Head) → Bodies s head → head.sort ≡ Requirement → head.home ≡ home → Done s (mark k.Semicolon ∷ leave_home home)
+  pub requirement_done : (home : Home) (s : State) (head : Head) → Bodies s head → head.sort ≡ Requirement → head.home ≡ home
+      → Done s (mark k.Semicolon ∷ leave_home home)
   unfolding leave_home
   requirement_done (InFile decls) s head b h e = let w = b.file h decls e (total - 1) in over _ _ _ _ w.1 (file_done _ _)
   requirement_done (InOwner owner members) s head b h e = let w = b.owner h owner members e (total - 2) in over _ _ _ _ w.1 (members_done owner _)
@@ -352,7 +399,8 @@ module _ (total : ℕ) where
   sort_done Subscript s head b h = over _ _ _ _ (b.body Subscript h (λ e. cc) _) (body_opened_done Subscript head _)
   sort_done Deinit s head b h = over _ _ _ _ (b.body Deinit h (λ e. cc) _) (body_opened_done Deinit head _)
 
-  pub result_body : (head : Head) (to : ℕ) (sort : Sort) → head.sort ≡ sort → (sort ≡ Requirement → ⊥) → (n : ℕ) → step (ResultRead head to) (mark k.LeftBrace) n ≡ Some (body_opened sort head (mark k.LeftBrace).span)
+  pub result_body : (head : Head) (to : ℕ) (sort : Sort) → head.sort ≡ sort → (sort ≡ Requirement → ⊥) → (n : ℕ)
+      → step (ResultRead head to) (mark k.LeftBrace) n ≡ Some (body_opened sort head (mark k.LeftBrace).span)
   unfolding step
   result_body head to FileFunction h r n = rw (h, step) refl
   result_body head to Method h r n = rw (h, step) refl
@@ -380,7 +428,8 @@ module _ (total : ℕ) where
   effect_semicolon head to n = refl
 
   -- states that go on alike in place of a body
-  pub sort_like : (sort : Sort) (home : Home) (s s' : State) → ((n : ℕ) → step s (mark k.LeftBrace) n ≡ step s' (mark k.LeftBrace) n) → ((n : ℕ) → step s (mark k.Semicolon) n ≡ step s' (mark k.Semicolon) n)
+  pub sort_like : (sort : Sort) (home : Home) (s s' : State) → ((n : ℕ) → step s (mark k.LeftBrace) n ≡ step s' (mark k.LeftBrace) n)
+      → ((n : ℕ) → step s (mark k.Semicolon) n ≡ step s' (mark k.Semicolon) n)
       → Done s' (leave_sort sort home) → Done s (leave_sort sort home)
   unfolding leave_sort
   sort_like FileFunction home s s' f g d = like _ _ _ _ (f _) d
@@ -392,7 +441,8 @@ module _ (total : ℕ) where
   pub effect_done : (head : Head) (to : ℕ) → Done (EffectRead head to) (leave_sort head.sort head.home)
   effect_done head to = sort_like head.sort head.home _ _ (effect_brace head to) (effect_semicolon head to) (result_done head to)
 
-  pub params_brace : (sort : Sort) (head : Head) (to : ℕ) → head.sort ≡ sort → (sort ≡ Subscript → ⊥) → (n : ℕ) → step (ParamsRead head to) (mark k.LeftBrace) n ≡ step (ResultRead head to) (mark k.LeftBrace) n
+  pub params_brace : (sort : Sort) (head : Head) (to : ℕ) → head.sort ≡ sort → (sort ≡ Subscript → ⊥) → (n : ℕ)
+      → step (ParamsRead head to) (mark k.LeftBrace) n ≡ step (ResultRead head to) (mark k.LeftBrace) n
   unfolding step
   params_brace FileFunction head to h r n = rw (h, step) refl
   params_brace Method head to h r n = rw (h, step) refl
@@ -400,7 +450,8 @@ module _ (total : ℕ) where
   params_brace Subscript head to h r n = absurd (r refl)
   params_brace Deinit head to h r n = rw (h, step) refl
 
-  pub params_semicolon : (sort : Sort) (head : Head) (to : ℕ) → head.sort ≡ sort → (sort ≡ Subscript → ⊥) → (n : ℕ) → step (ParamsRead head to) (mark k.Semicolon) n ≡ step (ResultRead head to) (mark k.Semicolon) n
+  pub params_semicolon : (sort : Sort) (head : Head) (to : ℕ) → head.sort ≡ sort → (sort ≡ Subscript → ⊥) → (n : ℕ)
+      → step (ParamsRead head to) (mark k.Semicolon) n ≡ step (ResultRead head to) (mark k.Semicolon) n
   unfolding step
   params_semicolon FileFunction head to h r n = rw (h, step) refl
   params_semicolon Method head to h r n = rw (h, step) refl
@@ -409,7 +460,9 @@ module _ (total : ℕ) where
   params_semicolon Deinit head to h r n = rw (h, step) refl
 
   pub params_other : (sort : Sort) (head : Head) (to : ℕ) → head.sort ≡ sort → (sort ≡ Subscript → ⊥) → Done (ParamsRead head to) (leave_sort sort head.home)
-  params_other sort head to h r = sort_like sort head.home _ (ResultRead head to) (params_brace sort head to h r) (params_semicolon sort head to h r) (sort_done sort (ResultRead head to) head (result_bodies head to) h)
+  params_other sort head to h r =
+      sort_like sort head.home _ (ResultRead head to) (params_brace sort head to h r) (params_semicolon sort head to h r)
+      (sort_done sort (ResultRead head to) head (result_bodies head to) h)
 
   pub named_result : (head : Head) → Done (TypeWanted (ForResult head)) (a_name ∷ leave_sort head.sort head.home)
   unfolding step
@@ -424,7 +477,8 @@ module _ (total : ℕ) where
   params_sort FileFunction head to h = params_other FileFunction head to h (λ e. cc)
   params_sort Method head to h = params_other Method head to h (λ e. cc)
   params_sort Requirement head to h = params_other Requirement head to h (λ e. cc)
-  params_sort Subscript head to h = subst (λ sort. Done (ParamsRead head to) (mark k.Colon ∷ a_name ∷ leave_sort sort head.home)) h (params_subscript head to h)
+  params_sort Subscript head to h =
+      subst (λ sort. Done (ParamsRead head to) (mark k.Colon ∷ a_name ∷ leave_sort sort head.home)) h (params_subscript head to h)
   params_sort Deinit head to h = params_other Deinit head to h (λ e. cc)
 
   pub params_done : (head : Head) (to : ℕ) → Done (ParamsRead head to) (leave_head head)
@@ -440,23 +494,28 @@ module _ (total : ℕ) where
 
   -- TYPES
 
-  pub closed_array_done : (word : Span) (written : T.TypeExp) (spot : Spot) → Done (ArrayClosed word written spot) (mark k.LeftParen ∷ mark k.RightParen ∷ leave_spot spot)
+  pub closed_array_done : (word : Span) (written : T.TypeExp) (spot : Spot)
+      → Done (ArrayClosed word written spot) (mark k.LeftParen ∷ mark k.RightParen ∷ leave_spot spot)
   unfolding step
   closed_array_done word written spot = over _ (ArrayOpened word written spot) _ _ refl (over _ _ _ _ refl (leaves spot _ _ _))
 
-  pub array_done : (word : Span) (written : T.TypeExp) (spot : Spot) → Done (ArrayType word written spot) (mark k.Greater ∷ mark k.LeftParen ∷ mark k.RightParen ∷ leave_spot spot)
+  pub array_done : (word : Span) (written : T.TypeExp) (spot : Spot)
+      → Done (ArrayType word written spot) (mark k.Greater ∷ mark k.LeftParen ∷ mark k.RightParen ∷ leave_spot spot)
   unfolding step
   array_done word written spot = over _ _ _ _ refl (closed_array_done word written spot)
 
-  pub element_type_done : (word : Span) (written : T.TypeExp) (u : TypeUse) (ts : List Token) → ((t : T.TypeExp) → Done (typed t u) ts) → Done (ArrayTypeElement word written u) (mark k.Greater ∷ ts)
+  pub element_type_done : (word : Span) (written : T.TypeExp) (u : TypeUse) (ts : List Token) → ((t : T.TypeExp) → Done (typed t u) ts)
+      → Done (ArrayTypeElement word written u) (mark k.Greater ∷ ts)
   unfolding step
   element_type_done word written u ts d = over _ _ _ _ refl (d _)
 
-  pub parts_type_done : (bracket : Span) (parts : List T.TypeExp) (u : TypeUse) (ts : List Token) → ((t : T.TypeExp) → Done (typed t u) ts) → Done (TypesRead bracket parts u) (mark k.RightParen ∷ ts)
+  pub parts_type_done : (bracket : Span) (parts : List T.TypeExp) (u : TypeUse) (ts : List Token) → ((t : T.TypeExp) → Done (typed t u) ts)
+      → Done (TypesRead bracket parts u) (mark k.RightParen ∷ ts)
   unfolding step
   parts_type_done bracket parts u ts d = over _ _ _ _ refl (d _)
 
-  pub variable_done : (introducer : Introducer) (word : Span) (name : Name) (written : T.TypeExp) (before : List T.Stmt) (place : Place) → Done (BindingType introducer word name written before place) (mark k.Equal ∷ a_name ∷ leave_place place)
+  pub variable_done : (introducer : Introducer) (word : Span) (name : Name) (written : T.TypeExp) (before : List T.Stmt) (place : Place)
+      → Done (BindingType introducer word name written before place) (mark k.Equal ∷ a_name ∷ leave_place place)
   unfolding step leave_use
   variable_done introducer word name written before place = over _ _ _ _ refl (a_value (ForBinding introducer word name (Some written) before place))
 

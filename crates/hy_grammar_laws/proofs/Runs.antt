@@ -15,7 +15,8 @@ module _ (total : ℕ) where
   stops s t ts h = ap (λ o. go o (λ x. run total x ts) (suc (length ts))) h
 
   -- states that go on alike at a token
-  pub alike : (s s' : State) (t : Token) (ts : List Token) → step s t (total - suc (length ts)) ≡ step s' t (total - suc (length ts)) → run total s (t ∷ ts) ≡ run total s' (t ∷ ts)
+  pub alike : (s s' : State) (t : Token) (ts : List Token) → step s t (total - suc (length ts)) ≡ step s' t (total - suc (length ts))
+      → run total s (t ∷ ts) ≡ run total s' (t ∷ ts)
   unfolding run
   alike s s' t ts h = ap (λ o. go o (λ x. run total x ts) (suc (length ts))) h
 

@@ -34,6 +34,8 @@ pub fn refused_tokens_begin_no_program()
 
 /// Where the machine with the limit on nesting stops, the refusal that it tells is the first of all. Where it accepts, none is broken.
 pub fn first_refusal()
-    ensures accepts { (tokens : List Token) (size : ℕ) (tree : Tree) → AreApart 0 tokens size → walk (length tokens) start tokens ≡ Ok tree → IsFirst (Breaks tokens size) None × IsProgram tokens tree }
-    ensures refuses { (tokens : List Token) (size : ℕ) (halt : Halt) → AreApart 0 tokens size → walk (length tokens) start tokens ≡ Err halt → IsFirst (Breaks tokens size) (Some (refusal_of tokens size halt)) }
+    ensures accepts { (tokens : List Token) (size : ℕ) (tree : Tree) → AreApart 0 tokens size → walk (length tokens) start tokens ≡ Ok tree
+        → IsFirst (Breaks tokens size) None × IsProgram tokens tree }
+    ensures refuses { (tokens : List Token) (size : ℕ) (halt : Halt) → AreApart 0 tokens size → walk (length tokens) start tokens ≡ Err halt
+        → IsFirst (Breaks tokens size) (Some (refusal_of tokens size halt)) }
 {}

@@ -1,5 +1,6 @@
 -- Nesting of comments.
-use Rattle.std.proofs.Common.{◌≡◌, ◌≢◌, ℕ, zero, suc, ◌+◌, ◌-◌, ◌<◌, ◌≤◌, ◌⊎◌, inl, inr, List, [], ◌∷◌, ◌++◌, length, refl, sym, ◌∙◌, ap, subst, arith, append-nil, length-append}
+use Rattle.std.proofs.Common.{◌≡◌, ◌≢◌, ℕ, zero, suc, ◌+◌, ◌-◌, ◌<◌, ◌≤◌, ◌⊎◌, inl, inr, List, [], ◌∷◌, ◌++◌, length, refl, sym, ◌∙◌, ap, subst, arith}
+use Rattle.std.proofs.Common.{append-nil, length-append}
 use Rattle.hy_lexer.specs.Pieces.{BeginsNoMark, Nests, end, opens, closes, other}
 use Rattle.hy_lexer.specs.Scans.{IsClosed, IsOpen}
 
@@ -31,22 +32,26 @@ same_head a b x y e = cc
 same_tail : (a b : ℕ) (x y : List ℕ) → a ∷ x ≡ b ∷ y → x ≡ y
 same_tail a b x y e = cc
 
--- behind a mark, a reading that takes its first byte alone has no second byte
-alone : (a b : ℕ) (text more behind rest : List ℕ) (new : ℕ) (only : (r : List ℕ) → a ∷ more ≢ a ∷ b ∷ r) → b ∷ (text ++ behind) ≡ more ++ rest → EndsEarlier (a ∷ b ∷ text) (a ∷ more) new
+-- after a mark, a reading that takes its first byte alone has no second byte
+alone : (a b : ℕ) (text more behind rest : List ℕ) (new : ℕ) (only : (r : List ℕ) → a ∷ more ≢ a ∷ b ∷ r) → b ∷ (text ++ behind) ≡ more ++ rest
+    → EndsEarlier (a ∷ b ∷ text) (a ∷ more) new
 alone a b text [] behind rest new only e = inl (omega arith)
 alone a b text (x ∷ more) behind rest new only e = absurd (only more (ap (λ n. a ∷ n ∷ more) (sym (same_head _ _ _ _ e))))
 
-behind_opening : (old level new : ℕ) (text more behind rest : List ℕ) → Within (suc (suc old)) text → Nests level more new → level ≡ suc old → 47 ∷ 42 ∷ (text ++ behind) ≡ more ++ rest → EndsEarlier (47 ∷ 42 ∷ text) more new
+behind_opening : (old level new : ℕ) (text more behind rest : List ℕ) → Within (suc (suc old)) text → Nests level more new → level ≡ suc old
+    → 47 ∷ 42 ∷ (text ++ behind) ≡ more ++ rest → EndsEarlier (47 ∷ 42 ∷ text) more new
 behind_opening old level new text more behind rest go end e same = inl (omega arith)
 behind_opening old level new text more behind rest go (opens {old = low} {text = inner} h) e same =
-    longer text inner new 47 42 (go new inner behind rest (subst (λ n. Nests (suc (suc n)) inner new) (omega arith) h) (same_tail 42 42 _ _ (same_tail 47 47 _ _ same)))
+    longer text inner new 47 42 (go new inner behind rest (subst (λ n. Nests (suc (suc n)) inner new) (omega arith) h)
+    (same_tail 42 42 _ _ (same_tail 47 47 _ _ same)))
 behind_opening old level new text more behind rest go (closes h) e same = absurd (let clash : 47 ≡ 42 = same_head _ _ _ _ same in omega arith)
 behind_opening old level new text more behind rest go (other {byte = byte} {text = inner} free h) e same =
     let here : byte ≡ 47 = sym (same_head _ _ _ _ same) in
     subst (λ b. EndsEarlier (47 ∷ 42 ∷ text) (b ∷ inner) new) (sym here)
     (alone 47 42 text inner behind rest new (λ r f. (free r).0 (ap (λ b. b ∷ inner) here ∙ f)) (same_tail _ _ _ _ same))
 
-behind_closing : (old level new : ℕ) (text more behind rest : List ℕ) → Within old text → Nests level more new → level ≡ suc old → 42 ∷ 47 ∷ (text ++ behind) ≡ more ++ rest → EndsEarlier (42 ∷ 47 ∷ text) more new
+behind_closing : (old level new : ℕ) (text more behind rest : List ℕ) → Within old text → Nests level more new → level ≡ suc old
+    → 42 ∷ 47 ∷ (text ++ behind) ≡ more ++ rest → EndsEarlier (42 ∷ 47 ∷ text) more new
 behind_closing old level new text more behind rest go end e same = inl (omega arith)
 behind_closing old level new text more behind rest go (opens h) e same = absurd (let clash : 42 ≡ 47 = same_head _ _ _ _ same in omega arith)
 behind_closing old level new text more behind rest go (closes {old = low} {text = inner} h) e same =
@@ -57,13 +62,15 @@ behind_closing old level new text more behind rest go (other {byte = byte} {text
     (alone 42 47 text inner behind rest new (λ r f. (free r).1 (ap (λ b. b ∷ inner) here ∙ f)) (same_tail _ _ _ _ same))
 
 -- no mark begins where the next byte is known
-no_mark : (a byte : ℕ) (inner text behind rest : List ℕ) → 0 < length text → byte ∷ (text ++ behind) ≡ a ∷ inner ++ rest → (b : ℕ) (r : List ℕ) → inner ≡ b ∷ r → (t : List ℕ) × (byte ∷ text ≡ a ∷ b ∷ t)
+no_mark : (a byte : ℕ) (inner text behind rest : List ℕ) → 0 < length text → byte ∷ (text ++ behind) ≡ a ∷ inner ++ rest → (b : ℕ) (r : List ℕ)
+    → inner ≡ b ∷ r → (t : List ℕ) × (byte ∷ text ≡ a ∷ b ∷ t)
 no_mark a byte inner [] behind rest some same b r e = absurd (omega arith)
 no_mark a byte inner (x ∷ text) behind rest some same b r e =
     let f : x ∷ (text ++ behind) ≡ b ∷ (r ++ rest) = same_tail _ _ _ _ same ∙ ap (λ t. t ++ rest) e in
     (text, ap (λ n. n ∷ x ∷ text) (same_head _ _ _ _ same) ∙ ap (λ n. a ∷ n ∷ text) (same_head _ _ _ _ f))
 
-behind_other : (old level new byte : ℕ) (text more behind rest : List ℕ) → BeginsNoMark (byte ∷ text) → 0 < length text → Within (suc old) text → Nests level more new → level ≡ suc old → byte ∷ (text ++ behind) ≡ more ++ rest
+behind_other : (old level new byte : ℕ) (text more behind rest : List ℕ) → BeginsNoMark (byte ∷ text) → 0 < length text → Within (suc old) text
+    → Nests level more new → level ≡ suc old → byte ∷ (text ++ behind) ≡ more ++ rest
     → EndsEarlier (byte ∷ text) more new
 behind_other old level new byte text more behind rest none some go end e same = inl (omega arith)
 behind_other old level new byte text more behind rest none some go (opens {text = inner} h) e same =
@@ -101,10 +108,12 @@ leads_opens : (inner text rest : List ℕ) (old : ℕ) → Leads inner (suc old)
 leads_opens inner text rest old leads e = record { go = λ front behind new f h. leads.go (47 ∷ 42 ∷ front) behind new (e ∙ ap (λ t. 47 ∷ 42 ∷ t) f) (opens h) }
 
 leads_closes : (inner text rest : List ℕ) (old : ℕ) → Leads inner (suc old) text → text ≡ 42 ∷ 47 ∷ rest → Leads inner old rest
-leads_closes inner text rest old leads e = record { go = λ front behind new f h. leads.go (42 ∷ 47 ∷ front) behind new (e ∙ ap (λ t. 42 ∷ 47 ∷ t) f) (closes h) }
+leads_closes inner text rest old leads e =
+    record { go = λ front behind new f h. leads.go (42 ∷ 47 ∷ front) behind new (e ∙ ap (λ t. 42 ∷ 47 ∷ t) f) (closes h) }
 
 still_none : (text front behind : List ℕ) → text ≡ front ++ behind → BeginsNoMark text → BeginsNoMark front
-still_none text front behind e none r = ((λ f. (none (r ++ behind)).0 (e ∙ ap (λ t. t ++ behind) f)), (λ f. (none (r ++ behind)).1 (e ∙ ap (λ t. t ++ behind) f)))
+still_none text front behind e none r =
+    ((λ f. (none (r ++ behind)).0 (e ∙ ap (λ t. t ++ behind) f)), (λ f. (none (r ++ behind)).1 (e ∙ ap (λ t. t ++ behind) f)))
 
 leads_other : (inner text rest : List ℕ) (byte old : ℕ) → Leads inner (suc old) text → text ≡ byte ∷ rest → BeginsNoMark text → Leads inner (suc old) rest
 leads_other inner text rest byte old leads e none = record {
@@ -121,7 +130,8 @@ pub step_closes : (inner text rest : List ℕ) (level : ℕ) → Leads inner lev
 step_closes inner text rest zero leads some e = absurd (omega arith)
 step_closes inner text rest (suc old) leads some e = subst (λ n. Leads inner n rest) (omega arith) (leads_closes inner text rest old leads e)
 
-pub step_other : (inner text rest : List ℕ) (byte level : ℕ) → Leads inner level text → 0 < level → text ≡ byte ∷ rest → BeginsNoMark text → Leads inner level rest
+pub step_other : (inner text rest : List ℕ) (byte level : ℕ) → Leads inner level text → 0 < level → text ≡ byte ∷ rest → BeginsNoMark text
+    → Leads inner level rest
 step_other inner text rest byte zero leads some e none = absurd (omega arith)
 step_other inner text rest byte (suc old) leads some e none = leads_other inner text rest byte old leads e none
 

@@ -1,5 +1,6 @@
 -- What a piece is, by its first byte.
-use Rattle.std.proofs.Common.{◌≡◌, ◌≢◌, ℕ, suc, ◌<◌, ◌≤◌, ◌⊎◌, inl, inr, List, [], ◌∷◌, ◌++◌, length, refl, sym, ◌∙◌, ap, subst, Some, true, arith, length-append}
+use Rattle.std.proofs.Common.{◌≡◌, ◌≢◌, ℕ, suc, ◌<◌, ◌≤◌, ◌⊎◌, inl, inr, List, [], ◌∷◌, ◌++◌, length, refl, sym, ◌∙◌, ap, subst, Some, true, arith}
+use Rattle.std.proofs.Common.{length-append}
 use Rattle.std.specs.List.{AllByRecursion}
 use Rattle.std.specs.Char.{encode_utf8, is_ascii_alphabetic}
 use Rattle.std.specs.Str.{encode_utf8_all}
@@ -8,7 +9,8 @@ use Rattle.std.proofs.lemmas.Str.{char_from_byte, length-encode, len_utf8_bounds
 use Rattle.unicode_ident.proofs.IdentLemmas.{is_xid_start-ascii}
 use Rattle.hy_lexer.specs.declared.scan.ByteClass.TheVariants as class
 use Rattle.hy_lexer.specs.declared.token.TokenKind.{TokenKind}
-use Rattle.hy_lexer.specs.Pieces.{PieceKind, Space, Comment, OpenComment, Number, Token, IsPiece, IsWord, IsSpace, IsDigit, StartsWord, IsNumberByte, number_of, Nests, space, line_comment, block_comment, open_comment, word, number, mark}
+use Rattle.hy_lexer.specs.Pieces.{PieceKind, Space, Comment, OpenComment, Number, Token, IsPiece, IsWord, IsSpace, IsDigit, StartsWord, IsNumberByte}
+use Rattle.hy_lexer.specs.Pieces.{number_of, Nests, space, line_comment, block_comment, open_comment, word, number, mark}
 use Rattle.hy_lexer.specs.Scans.{class_of, class_at}
 use Rattle.hy_lexer.specs.Words.{kind_in, marks, word_token}
 use Rattle.hy_lexer.proofs.Tables.{kind_in-All}
@@ -54,7 +56,96 @@ abbrev IsMarkText : List ℕ → Type 0
 IsMarkText text = ((class_at text ≡ class.Mark) ⊎ (class_at text ≡ class.Slash)) × ((length text ≡ 1) ⊎ (length text ≡ 2))
 
 mark_text : (text : List ℕ) (kind : TokenKind) → kind_in marks text ≡ Some kind → IsMarkText text
-mark_text text kind found = kind_in-All IsMarkText marks text kind ((inl refl, inr refl), ((inl refl, inr refl), ((inl refl, inr refl), ((inl refl, inr refl), ((inl refl, inr refl), ((inl refl, inr refl), ((inl refl, inr refl), ((inl refl, inr refl), ((inl refl, inr refl), ((inr refl, inr refl), ((inl refl, inr refl), ((inl refl, inr refl), ((inl refl, inl refl), ((inl refl, inl refl), ((inl refl, inl refl), ((inl refl, inl refl), ((inl refl, inl refl), ((inl refl, inl refl), ((inl refl, inl refl), ((inl refl, inl refl), ((inl refl, inl refl), ((inl refl, inl refl), ((inl refl, inl refl), ((inr refl, inl refl), ((inl refl, inl refl), ((inl refl, inl refl), ((inl refl, inl refl), ((inl refl, inl refl), ((inl refl, inl refl), ((inl refl, inl refl), ((inl refl, inl refl), ((inl refl, inl refl), tt)))))))))))))))))))))))))))))))) found
+mark_text text kind found =
+    kind_in-All IsMarkText marks text kind (
+      (inl refl, inr refl),
+      (
+        (inl refl, inr refl),
+        (
+          (inl refl, inr refl),
+          (
+            (inl refl, inr refl),
+            (
+              (inl refl, inr refl),
+              (
+                (inl refl, inr refl),
+                (
+                  (inl refl, inr refl),
+                  (
+                    (inl refl, inr refl),
+                    (
+                      (inl refl, inr refl),
+                      (
+                        (inr refl, inr refl),
+                        (
+                          (inl refl, inr refl),
+                          (
+                            (inl refl, inr refl),
+                            (
+                              (inl refl, inl refl),
+                              (
+                                (inl refl, inl refl),
+                                (
+                                  (inl refl, inl refl),
+                                  (
+                                    (inl refl, inl refl),
+                                    (
+                                      (inl refl, inl refl),
+                                      (
+                                        (inl refl, inl refl),
+                                        (
+                                          (inl refl, inl refl),
+                                          (
+                                            (inl refl, inl refl),
+                                            (
+                                              (inl refl, inl refl),
+                                              (
+                                                (inl refl, inl refl),
+                                                (
+                                                  (inl refl, inl refl),
+                                                  (
+                                                    (inr refl, inl refl),
+                                                    (
+                                                      (inl refl, inl refl),
+                                                      (
+                                                        (inl refl, inl refl),
+                                                        (
+                                                          (inl refl, inl refl),
+                                                          (
+                                                            (inl refl, inl refl),
+                                                            (
+                                                              (inl refl, inl refl),
+                                                              ((inl refl, inl refl), ((inl refl, inl refl), ((inl refl, inl refl), tt))),
+                                                            ),
+                                                          ),
+                                                        ),
+                                                      ),
+                                                    ),
+                                                  ),
+                                                ),
+                                              ),
+                                            ),
+                                          ),
+                                        ),
+                                      ),
+                                    ),
+                                  ),
+                                ),
+                              ),
+                            ),
+                          ),
+                        ),
+                      ),
+                    ),
+                  ),
+                ),
+              ),
+            ),
+          ),
+        ),
+      ),
+    )
+    found
 
 pub mark_class : (text : List ℕ) (kind : TokenKind) → kind_in marks text ≡ Some kind → (class_at text ≡ class.Mark) ⊎ (class_at text ≡ class.Slash)
 mark_class text kind found = (mark_text text kind found).0
@@ -90,7 +181,8 @@ word_form text kind (word w) e = (refl, w)
 word_form text kind (number first rest) e = cc (class_of-digit _ first)
 word_form text kind (mark found) e = elim (mark_class text _ found) [ inl m ↦ cc | inr m ↦ cc ]
 
-pub number_form : (text : List ℕ) (kind : PieceKind) → IsPiece text kind → class_at text ≡ class.Digit → (kind ≡ Number (number_of text)) × AllByRecursion IsNumberByte text
+pub number_form : (text : List ℕ) (kind : PieceKind) → IsPiece text kind → class_at text ≡ class.Digit → (kind ≡ Number (number_of text))
+    × AllByRecursion IsNumberByte text
 number_form text kind (space h) e = cc (class_of-space _ h)
 number_form text kind (line_comment h) e = cc
 number_form text kind (block_comment h) e = cc

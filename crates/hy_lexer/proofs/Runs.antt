@@ -26,7 +26,8 @@ passes_more Is text rest behind byte p e is = record {
   all = all_more Is p.front byte p.all is;
 }
 
-pub passes_end : (Is : ℕ → Type 0) (text rest : List ℕ) (count : ℕ) → Passes Is text rest → StopsAt Is rest → count ≡ length text - length rest → IsRun Is text count
+pub passes_end : (Is : ℕ → Type 0) (text rest : List ℕ) (count : ℕ) → Passes Is text rest → StopsAt Is rest → count ≡ length text - length rest
+    → IsRun Is text count
 passes_end Is text rest count p stops e = record {
   front = p.front;
   behind = rest;
@@ -46,7 +47,8 @@ passes_word_start text = record { front = []; joined = refl; all = tt }
 
 pub passes_word_more : (text rest behind : List ℕ) (c : ℕ) → PassesWord text rest → rest ≡ encode_utf8 c ++ behind → ContinuesWord c → PassesWord text behind
 passes_word_more text rest behind c p e is =
-    let more : encode_utf8_all (p.front ++ c ∷ []) ≡ encode_utf8_all p.front ++ encode_utf8 c = encodes-append p.front (c ∷ []) ∙ ap (λ t. encode_utf8_all p.front ++ t) (rw append-nil) in
+    let more : encode_utf8_all (p.front ++ c ∷ []) ≡ encode_utf8_all p.front ++ encode_utf8 c = encodes-append p.front (c ∷ [])
+    ∙ ap (λ t. encode_utf8_all p.front ++ t) (rw append-nil) in
     record {
       front = p.front ++ c ∷ [];
       joined = p.joined ∙ ap (λ t. encode_utf8_all p.front ++ t) e ∙ rw (← append_assoc) (ap (λ t. t ++ behind) (sym more));

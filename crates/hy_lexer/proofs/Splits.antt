@@ -37,18 +37,26 @@ slash_same : (text more : List ℕ) (kind it : PieceKind) → IsSlashForm text k
 slash_same text more kind it (line h) (line d) same = refl
 slash_same text more kind it (line h) (closed d) same = absurd (apart (second _ _ _ _ _ _ same))
 slash_same text more kind it (line h) (unclosed {text = inner} d) same = absurd (apart (second _ _ _ _ _ _ same))
-slash_same text more kind it (line {text = inner} h) (marked {it = token} found) same = absurd (no_comment_mark 47 inner token (inl refl) (subst (λ t. kind_in marks t ≡ Some token) (sym same) found))
+slash_same text more kind it (line {text = inner} h) (marked {it = token} found) same =
+    absurd (no_comment_mark 47 inner token (inl refl) (subst (λ t. kind_in marks t ≡ Some token) (sym same) found))
 slash_same text more kind it (closed h) (line d) same = absurd (apart (sym (second _ _ _ _ _ _ same)))
 slash_same text more kind it (closed h) (closed d) same = refl
-slash_same text more kind it (closed {text = inner} h) (unclosed {text = other} {level = level} d) same = absurd (not_both inner other level h d (tail_two _ _ _ _ _ _ same))
-slash_same text more kind it (closed {text = inner} h) (marked {it = token} found) same = absurd (no_comment_mark 42 inner token (inr refl) (subst (λ t. kind_in marks t ≡ Some token) (sym same) found))
+slash_same text more kind it (closed {text = inner} h) (unclosed {text = other} {level = level} d) same =
+    absurd (not_both inner other level h d (tail_two _ _ _ _ _ _ same))
+slash_same text more kind it (closed {text = inner} h) (marked {it = token} found) same =
+    absurd (no_comment_mark 42 inner token (inr refl) (subst (λ t. kind_in marks t ≡ Some token) (sym same) found))
 slash_same text more kind it (unclosed h) (line d) same = absurd (apart (sym (second _ _ _ _ _ _ same)))
-slash_same text more kind it (unclosed {text = other} {level = level} h) (closed {text = inner} d) same = absurd (not_both inner other level d h (tail_two _ _ _ _ _ _ (sym same)))
+slash_same text more kind it (unclosed {text = other} {level = level} h) (closed {text = inner} d) same =
+    absurd (not_both inner other level d h (tail_two _ _ _ _ _ _ (sym same)))
 slash_same text more kind it (unclosed h) (unclosed d) same = refl
-slash_same text more kind it (unclosed {text = inner} h) (marked {it = token} found) same = absurd (no_comment_mark 42 inner token (inr refl) (subst (λ t. kind_in marks t ≡ Some token) (sym same) found))
-slash_same text more kind it (marked {it = token} found) (line {text = inner} d) same = absurd (no_comment_mark 47 inner token (inl refl) (subst (λ t. kind_in marks t ≡ Some token) same found))
-slash_same text more kind it (marked {it = token} found) (closed {text = inner} d) same = absurd (no_comment_mark 42 inner token (inr refl) (subst (λ t. kind_in marks t ≡ Some token) same found))
-slash_same text more kind it (marked {it = token} found) (unclosed {text = inner} d) same = absurd (no_comment_mark 42 inner token (inr refl) (subst (λ t. kind_in marks t ≡ Some token) same found))
+slash_same text more kind it (unclosed {text = inner} h) (marked {it = token} found) same =
+    absurd (no_comment_mark 42 inner token (inr refl) (subst (λ t. kind_in marks t ≡ Some token) (sym same) found))
+slash_same text more kind it (marked {it = token} found) (line {text = inner} d) same =
+    absurd (no_comment_mark 47 inner token (inl refl) (subst (λ t. kind_in marks t ≡ Some token) same found))
+slash_same text more kind it (marked {it = token} found) (closed {text = inner} d) same =
+    absurd (no_comment_mark 42 inner token (inr refl) (subst (λ t. kind_in marks t ≡ Some token) same found))
+slash_same text more kind it (marked {it = token} found) (unclosed {text = inner} d) same =
+    absurd (no_comment_mark 42 inner token (inr refl) (subst (λ t. kind_in marks t ≡ Some token) same found))
 slash_same text more kind it (marked {it = token} found) (marked {it = other} also) same =
     let e : Some token ≡ Some other = sym (subst (λ t. kind_in marks t ≡ Some token) same found) ∙ also in ap Token (cc)
 
@@ -101,7 +109,8 @@ next_same text p q x y (inr h) (inr d) = bad_same text p q x y h d
 abbrev pub GoesOn : List ℕ → List Piece → List Piece → List ℕ → Type 0
 GoesOn mid one other behind = (more : List Piece) × (other ≡ one ++ more) × Splits mid more behind
 
-put_in_front : (p q : Piece) (one other : List Piece) (x y : List ℕ) → p ≡ q → GoesOn x one other y ⊎ GoesOn y other one x → GoesOn x (p ∷ one) (q ∷ other) y ⊎ GoesOn y (q ∷ other) (p ∷ one) x
+put_in_front : (p q : Piece) (one other : List Piece) (x y : List ℕ) → p ≡ q → GoesOn x one other y ⊎ GoesOn y other one x
+    → GoesOn x (p ∷ one) (q ∷ other) y ⊎ GoesOn y (q ∷ other) (p ∷ one) x
 put_in_front p q one other x y same (inl h) = let e = h.1 in inl (h.0, cc, h.2)
 put_in_front p q one other x y same (inr h) = let e = h.1 in inr (h.0, cc, h.2)
 

@@ -29,7 +29,7 @@ IsSpace byte = (byte ≡ 32) ⊎ ((byte ≡ 9) ⊎ ((byte ≡ 13) ⊎ (byte ≡ 
 abbrev pub IsDigit : ℕ → Type 0
 IsDigit byte = (48 ≤ byte) × (byte ≤ 57)
 
--- a byte of a number behind its first
+-- a byte of a number after its first
 abbrev pub IsNumberByte : ℕ → Type 0
 IsNumberByte byte = IsDigit byte ⊎ (byte ≡ 95)
 
@@ -95,7 +95,8 @@ pub record IsBad (text : List ℕ) (piece : Piece) (behind : List ℕ) : Type 0 
 abbrev pub IsNext : List ℕ → Piece → List ℕ → Type 0
 IsNext text piece behind = IsLongest text piece behind ⊎ IsBad text piece behind
 
--- A text is split into pieces from its start, up to what is left behind them.
+-- A text is split into pieces from its start, up to what is left after them.
 pub data Splits : List ℕ → List Piece → List ℕ → Type 0 where
   done : {text : List ℕ} → Splits text [] text
-  next : {text mid behind : List ℕ} {piece : Piece} {pieces : List Piece} → IsNext text piece mid → Splits mid pieces behind → Splits text (piece ∷ pieces) behind
+  next : {text mid behind : List ℕ} {piece : Piece} {pieces : List Piece} → IsNext text piece mid → Splits mid pieces behind
+      → Splits text (piece ∷ pieces) behind

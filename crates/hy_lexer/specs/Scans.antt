@@ -54,12 +54,13 @@ BeginsInAscii text = (byte : ℕ) × (behind : List ℕ) × (text ≡ byte ∷ b
 
 -- The text begins with a mark of two bytes, or with none.
 abbrev pub BeginsWithPair : List ℕ → TokenKind → Type 0
-BeginsWithPair text kind = (first : ℕ) × (second : ℕ) × (behind : List ℕ) × (text ≡ first ∷ second ∷ behind) × (Some kind ≡ kind_in pairs (first ∷ second ∷ []))
+BeginsWithPair text kind = (first : ℕ) × (second : ℕ) × (behind : List ℕ) × (text ≡ first ∷ second ∷ behind)
+    × (Some kind ≡ kind_in pairs (first ∷ second ∷ []))
 
 abbrev pub LacksPair : List ℕ → Type 0
 LacksPair text = (first second : ℕ) (behind : List ℕ) → text ≡ first ∷ second ∷ behind → kind_in pairs (first ∷ second ∷ []) ≡ None
 
--- a comment that is closed behind so many bytes of what stands behind its first `/*`; one that is not closed
+-- a comment that is closed after so many bytes of what stands after its first `/*`; one that is not closed
 abbrev pub IsClosed : List ℕ → ℕ → Type 0
 IsClosed inner count = (front : List ℕ) × (behind : List ℕ) × (inner ≡ front ++ behind) × Nests 1 front 0 × (count ≡ length front)
 
@@ -68,12 +69,20 @@ IsOpen inner = (level : ℕ) × Nests 1 inner (suc level)
 
 -- a piece that the text begins with is a mark
 abbrev pub OnlyMarks : List ℕ → Type 0
-OnlyMarks text = (more : List ℕ) (kind : PieceKind) (rest : List ℕ) → text ≡ more ++ rest → IsPiece more kind → (it : TokenKind) × (kind ≡ Token it) × (kind_in marks more ≡ Some it)
+OnlyMarks text = (more : List ℕ) (kind : PieceKind) (rest : List ℕ) → text ≡ more ++ rest → IsPiece more kind → (it : TokenKind) × (kind ≡ Token it)
+    × (kind_in marks more ≡ Some it)
 
 -- what a piece may be that begins with this byte
 abbrev pub class_of : ℕ → ByteClass
-class_of byte = cond (nat_lt byte 48) (cond (byte == 32) class.Space (cond (byte == 10) class.Space (cond (byte == 9) class.Space (cond (byte == 13) class.Space (cond (byte == 47) class.Slash class.Mark)))))
-    (cond (nat_lt byte 58) class.Digit (cond (nat_lt byte 65) class.Mark (cond (nat_lt byte 91) class.Word (cond (byte == 95) class.Word (cond (nat_lt byte 97) class.Mark (cond (nat_lt byte 123) class.Word (cond (nat_lt byte 128) class.Mark class.Word)))))))
+class_of byte =
+    cond (nat_lt byte 48)
+    (cond (byte == 32) class.Space
+    (cond (byte == 10) class.Space (cond (byte == 9) class.Space (cond (byte == 13) class.Space (cond (byte == 47) class.Slash class.Mark)))))
+    (cond (nat_lt byte 58) class.Digit
+    (cond (nat_lt byte 65) class.Mark
+    (cond (nat_lt byte 91) class.Word
+    (cond (byte == 95) class.Word
+    (cond (nat_lt byte 97) class.Mark (cond (nat_lt byte 123) class.Word (cond (nat_lt byte 128) class.Mark class.Word)))))))
 
 -- the class of a text's first byte
 abbrev pub class_at : List ℕ → ByteClass

@@ -1,5 +1,6 @@
 -- The tokens of a source, and the rules that it may break.
-use Rattle.std.specs.Prelude.{◌≡◌, ◌<◌, ℕ, suc, ◌+◌, cond, Bool, true, false, ◌||◌, nat_lt, List, [], ◌∷◌, ◌++◌, length, take, drop, Option, Some, None, pos, ◌==◌}
+use Rattle.std.specs.Prelude.{◌≡◌, ◌<◌, ℕ, suc, ◌+◌, cond, Bool, true, false, ◌||◌, nat_lt, List, [], ◌∷◌, ◌++◌, length, take, drop, Option, Some, None}
+use Rattle.std.specs.Prelude.{pos, ◌==◌}
 use Rattle.std.specs.List.{AllByRecursion}
 use Rattle.std.specs.Str.{IsUtf8, StartsWithNoChar}
 use Rattle.hy_base.specs.First.{Refusal}
@@ -47,7 +48,7 @@ abbrev pub in_front : Option TokenKind → Bool → Span → List Token → List
 in_front None first s tokens = tokens
 in_front (Some kind) first s tokens = record { kind = kind; span = s; first = first } ∷ tokens
 
--- whether the token behind a piece is the first on its line, where a token in place of the piece would be or not
+-- whether the token after a piece is the first on its line, where a token in place of the piece would be or not
 abbrev pub first_behind : Option TokenKind → Bool → List ℕ → Bool
 first_behind None first text = first || has_line_feed text
 first_behind (Some kind) first text = false
@@ -55,7 +56,9 @@ first_behind (Some kind) first text = false
 -- the tokens among pieces that begin at this place of the source, and whether the next token is the first on its line
 abbrev pub tokens_of : ℕ → Bool → List Piece → List Token
 tokens_of at first [] = []
-tokens_of at first (piece ∷ pieces) = in_front (token_of piece.kind) first (span at (at + length piece.text)) (tokens_of (at + length piece.text) (first_behind (token_of piece.kind) first piece.text) pieces)
+tokens_of at first (piece ∷ pieces) =
+    in_front (token_of piece.kind) first (span at (at + length piece.text))
+    (tokens_of (at + length piece.text) (first_behind (token_of piece.kind) first piece.text) pieces)
 
 -- no rule is broken by the piece
 abbrev pub IsSound : Piece → Type 0
@@ -72,7 +75,9 @@ pub record HasTokens (bytes : List ℕ) (tokens : List Token) : Type 0 where
 -- The source breaks this rule there.
 pub data Breaks : List ℕ → Refusal → Type 0 where
   -- a bad character, an open comment or a number that is too large
-  piece : {bytes behind : List ℕ} {rule : Rule} (before : List Piece) (it : Piece) → IsUtf8 bytes → Splits bytes (before ++ it ∷ []) behind → rule_of it.kind ≡ Some rule
+  piece : {bytes behind : List ℕ} {rule : Rule} (before : List Piece) (it : Piece) → IsUtf8 bytes → Splits bytes (before ++ it ∷ []) behind
+      → rule_of it.kind ≡ Some rule
       → Breaks bytes (record { rule = rule; span = span (size_of before) (size_of before + length it.text) })
-  -- a byte that begins no whole character, behind whole ones
-  not_utf8 : {bytes : List ℕ} (at : ℕ) → at < length bytes → IsUtf8 (take at bytes) → StartsWithNoChar (drop at bytes) → Breaks bytes (record { rule = L4; span = span at (suc at) })
+  -- a byte that begins no whole character, after whole ones
+  not_utf8 : {bytes : List ℕ} (at : ℕ) → at < length bytes → IsUtf8 (take at bytes) → StartsWithNoChar (drop at bytes)
+      → Breaks bytes (record { rule = L4; span = span at (suc at) })

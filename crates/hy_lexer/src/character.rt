@@ -6,7 +6,7 @@ ghost use Rattle.unicode_ident.specs.Ident.{is_xid_continue};
 ghost use Rattle.hy_lexer.specs.Pieces.{StartsWord};
 ghost use Rattle.hy_lexer.specs.Scans.{IsWordRun};
 
-/// The first character of a text, and what is behind it.
+/// The first character of a text, and what is after it.
 pub fn first_char(text: &str) -> (char, &str)
     requires { 0 < length text.now }
     ensures spelled { text.now ≡ encode_utf8 result.0 ++ result.1.now }
@@ -42,7 +42,7 @@ fn continues_word(c: char) -> bool
     unicode_ident::is_xid_continue(c)
 }
 
-/// What is behind the characters that continue a word.
+/// What is after the characters that continue a word.
 pub fn behind_word(text: &str) -> &str
     ensures { IsWordRun text.now result.now }
 {

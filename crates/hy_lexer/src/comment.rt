@@ -3,7 +3,7 @@ ghost use Rattle.std.specs.Prelude.{MatchOption};
 ghost use Rattle.hy_lexer.specs.Scans.{IsClosed, IsOpen};
 ghost use Rattle.hy_lexer.specs.Steps.{IsStep};
 
-/// What a text within a comment begins with, and what is behind that.
+/// What a text within a comment begins with, and what is after that.
 #[derive(Clone, Copy, Debug)]
 pub enum Step<'a> {
     Opens(&'a [u8]),
@@ -29,7 +29,7 @@ fn next_step(text: &[u8]) -> Step<'_>
     }
 }
 
-/// How many bytes a comment has behind its first `/*`, up to where it is closed and with the `*/` that closes it.
+/// How many bytes a comment has after its first `/*`, up to where it is closed and with the `*/` that closes it.
 pub fn closed_len(inner: &[u8]) -> Option<usize>
     ensures { MatchOption result (IsOpen inner.now) (λ length. IsClosed inner.now length) }
 {

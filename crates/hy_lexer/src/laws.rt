@@ -20,7 +20,7 @@ pub fn spans_are_apart()
     ensures { (bytes : List ℕ) (tokens : List Token) → HasTokens bytes tokens → AreApart 0 tokens (length bytes) }
 {}
 
-/// Only spaces and comments stand before, between and behind the tokens.
+/// Only spaces and comments stand before, between and after the tokens.
 pub fn gaps_are_spaces_and_comments()
     ensures { (bytes : List ℕ) (tokens : List Token) → HasTokens bytes tokens → AreGapsBetween bytes 0 tokens }
 {}

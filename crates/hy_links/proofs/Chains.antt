@@ -55,7 +55,8 @@ begins next back from at [] chain = chain
 begins next back from at (i ∷ xs) chain = chain.0
 
 -- a walk along the links meets the members
-pub chain_from-all : (next back : ℕ → Option ℕ) (from at : Option ℕ) (xs : List ℕ) (most : ℕ) → length xs ≤ most → Chain next back from at xs → chain_from next most at ≡ xs
+pub chain_from-all : (next back : ℕ → Option ℕ) (from at : Option ℕ) (xs : List ℕ) (most : ℕ) → length xs ≤ most → Chain next back from at xs
+    → chain_from next most at ≡ xs
 chain_from-all next back from at [] zero room chain = refl
 chain_from-all next back from at [] (suc most) room chain = rw chain refl
 chain_from-all next back from at (i ∷ xs) zero room chain = absurd (omega arith)
@@ -63,14 +64,16 @@ chain_from-all next back from at (i ∷ xs) (suc most) room chain =
     rw (chain.0) (ap (λ ys. i ∷ ys) (chain_from-all next back (Some i) (next i) xs most (omega arith) (chain.2)))
 
 -- a chain whose members keep their links stands
-pub kept : (next back new_next new_back : ℕ → Option ℕ) (from at : Option ℕ) (xs : List ℕ) → Chain next back from at xs → ((i : ℕ) → 0 < times i xs → new_next i ≡ next i) → ((i : ℕ) → 0 < times i xs → new_back i ≡ back i) → Chain new_next new_back from at xs
+pub kept : (next back new_next new_back : ℕ → Option ℕ) (from at : Option ℕ) (xs : List ℕ) → Chain next back from at xs
+    → ((i : ℕ) → 0 < times i xs → new_next i ≡ next i) → ((i : ℕ) → 0 < times i xs → new_back i ≡ back i) → Chain new_next new_back from at xs
 kept next back new_next new_back from at [] chain same_next same_back = chain
 kept next back new_next new_back from at (i ∷ xs) chain same_next same_back =
     let here : 0 < times i (i ∷ xs) = omega (arith, times-same i xs) in
     let further : (j : ℕ) → 0 < times j xs → 0 < times j (i ∷ xs) = λ j there. omega (arith, times-le j i xs, there) in (
       chain.0,
       same_back i here ∙ chain.1,
-      rw (same_next i here) (kept next back new_next new_back (Some i) (next i) xs chain.2 (λ j there. same_next j (further j there)) (λ j there. same_back j (further j there))),
+      rw (same_next i here) (kept next back new_next new_back (Some i) (next i) xs chain.2 (λ j there. same_next j (further j there))
+          (λ j there. same_back j (further j there))),
     )
 
 -- the first of a list is on it
@@ -81,7 +84,9 @@ head-times i (j ∷ xs) is =
     rw same (omega (arith, times-same i xs))
 
 -- where only the first member's way back changes, the chain stands with it
-pub relinked : (next back new_next new_back : ℕ → Option ℕ) (from new_from at : Option ℕ) (xs : List ℕ) → Chain next back from at xs → AreApart xs → ((i : ℕ) → 0 < times i xs → new_next i ≡ next i) → ((i : ℕ) → 0 < times i xs → head xs ≢ Some i → new_back i ≡ back i) → ((i : ℕ) → head xs ≡ Some i → new_back i ≡ new_from) → Chain new_next new_back new_from at xs
+pub relinked : (next back new_next new_back : ℕ → Option ℕ) (from new_from at : Option ℕ) (xs : List ℕ) → Chain next back from at xs → AreApart xs
+    → ((i : ℕ) → 0 < times i xs → new_next i ≡ next i) → ((i : ℕ) → 0 < times i xs → head xs ≢ Some i → new_back i ≡ back i)
+    → ((i : ℕ) → head xs ≡ Some i → new_back i ≡ new_from) → Chain new_next new_back new_from at xs
 relinked next back new_next new_back from new_from at [] chain apart same_next same_back first = chain
 relinked next back new_next new_back from new_from at (i ∷ xs) chain apart same_next same_back first =
     let here : 0 < times i (i ∷ xs) = omega (arith, times-same i xs) in
@@ -90,7 +95,8 @@ relinked next back new_next new_back from new_from at (i ∷ xs) chain apart sam
     λ j there same. let e : i ≡ j = cc in omega (arith, apart j, ap (λ k. times j (k ∷ xs)) e, times-same j xs, there) in (
       chain.0,
       first i refl,
-      rw (same_next i here) (kept next back new_next new_back (Some i) (next i) xs chain.2 (λ j there. same_next j (further j there)) (λ j there. same_back j (further j there) (other j there))),
+      rw (same_next i here) (kept next back new_next new_back (Some i) (next i) xs chain.2 (λ j there. same_next j (further j there))
+          (λ j there. same_back j (further j there) (other j there))),
     )
 
 -- a list in two parts at a place: from there back to the front, and from there on to the end
@@ -166,7 +172,8 @@ apart-front x xs apart none y = elim (cases_eq x y) [
 ]
 
 -- the list in place at its front, where x is put there
-pub put_in_front : (next back new_next new_back : ℕ → Option ℕ) (at : Option ℕ) (x : ℕ) (xs : List ℕ) → Chain next back None at xs → AreApart xs → times x xs ≡ 0 → PutsInFront next back new_next new_back at x → Chain new_next new_back None (Some x) (x ∷ xs)
+pub put_in_front : (next back new_next new_back : ℕ → Option ℕ) (at : Option ℕ) (x : ℕ) (xs : List ℕ) → Chain next back None at xs → AreApart xs
+    → times x xs ≡ 0 → PutsInFront next back new_next new_back at x → Chain new_next new_back None (Some x) (x ∷ xs)
 put_in_front next back new_next new_back at x xs chain apart none puts =
     let begin = begins next back None at xs chain in
     let other : (i : ℕ) → 0 < times i xs → i ≢ x = λ i there same. omega (arith, there, none, ap (λ k. times k xs) same) in (
@@ -179,7 +186,9 @@ put_in_front next back new_next new_back at x xs chain apart none puts =
     )
 
 -- the part of a list on one side of a member that is taken out
-pub beside : (next back new_next new_back : ℕ → Option ℕ) (other : Option ℕ) (x : ℕ) (xs : List ℕ) → Chain next back (Some x) (head xs) xs → AreApart xs → ((i : ℕ) → 0 < times i xs → i ≢ x) → ((i : ℕ) → 0 < times i xs → other ≢ Some i) → next x ≡ head xs → back x ≡ other → Unlinks next back new_next new_back x → Chain new_next new_back other (head xs) xs
+pub beside : (next back new_next new_back : ℕ → Option ℕ) (other : Option ℕ) (x : ℕ) (xs : List ℕ) → Chain next back (Some x) (head xs) xs → AreApart xs
+    → ((i : ℕ) → 0 < times i xs → i ≢ x) → ((i : ℕ) → 0 < times i xs → other ≢ Some i) → next x ≡ head xs → back x ≡ other
+    → Unlinks next back new_next new_back x → Chain new_next new_back other (head xs) xs
 beside next back new_next new_back other x xs chain apart differs elsewhere is_next is_back unlinks =
     relinked next back new_next new_back (Some x) other (head xs) xs chain apart
     (λ i there. unlinks.next_kept i (differs i there) (λ is. elsewhere i there (sym is_back ∙ is)))
@@ -213,7 +222,9 @@ pub record Left (next back new_next new_back : ℕ → Option ℕ) (at : Option 
   pub first_stays : back x ≢ None → head (dropped x xs) ≡ at
   pub one_less : length xs ≡ length (dropped x xs) + 1
 
-left_parts : (next back new_next new_back : ℕ → Option ℕ) (at : Option ℕ) (x : ℕ) (near far : List ℕ) → at ≡ head (onto near (x ∷ far)) → Parted next back near (x ∷ far) → AreApart (onto near (x ∷ far)) → Unlinks next back new_next new_back x → Left next back new_next new_back at x (onto near (x ∷ far))
+left_parts : (next back new_next new_back : ℕ → Option ℕ) (at : Option ℕ) (x : ℕ) (near far : List ℕ) → at ≡ head (onto near (x ∷ far))
+    → Parted next back near (x ∷ far) → AreApart (onto near (x ∷ far)) → Unlinks next back new_next new_back x
+    → Left next back new_next new_back at x (onto near (x ∷ far))
 left_parts next back new_next new_back at x near far begin parts apart unlinks =
     let is_next = begins next back (Some x) (next x) far parts.further.2 in
     let is_back = parts.further.1 in
@@ -240,7 +251,8 @@ left_parts next back new_next new_back at x near far begin parts apart unlinks =
       one_less = rw left (omega (arith, length-onto near (x ∷ far), length-onto near far));
     }
 
-pub taken_out : (next back new_next new_back : ℕ → Option ℕ) (at : Option ℕ) (x : ℕ) (xs : List ℕ) → Chain next back None at xs → AreApart xs → 0 < times x xs → Unlinks next back new_next new_back x → Left next back new_next new_back at x xs
+pub taken_out : (next back new_next new_back : ℕ → Option ℕ) (at : Option ℕ) (x : ℕ) (xs : List ℕ) → Chain next back None at xs → AreApart xs
+    → 0 < times x xs → Unlinks next back new_next new_back x → Left next back new_next new_back at x xs
 taken_out next back new_next new_back at x xs chain apart there unlinks =
     let place = stands x xs [] there in
     let begin = begins next back None at xs chain in
@@ -255,7 +267,8 @@ pub record Neighbours (next back : ℕ → Option ℕ) (x : ℕ) (xs : List ℕ)
   pub next_other : (i : ℕ) → next x ≡ Some i → i ≢ x
   pub back_other : (i : ℕ) → back x ≡ Some i → i ≢ x
 
-neighbours_parts : (next back : ℕ → Option ℕ) (x : ℕ) (near far : List ℕ) → Parted next back near (x ∷ far) → AreApart (onto near (x ∷ far)) → Neighbours next back x (onto near (x ∷ far))
+neighbours_parts : (next back : ℕ → Option ℕ) (x : ℕ) (near far : List ℕ) → Parted next back near (x ∷ far) → AreApart (onto near (x ∷ far))
+    → Neighbours next back x (onto near (x ∷ far))
 neighbours_parts next back x near far parts apart =
     let is_next = begins next back (Some x) (next x) far parts.further.2 in
     let is_back = parts.further.1 in
@@ -267,7 +280,8 @@ neighbours_parts next back x near far parts apart =
       back_other = λ i is same. omega (arith, apart x, count x, times-same x far, head-times x near (sym is_back ∙ is ∙ ap (λ k. Some k) same));
     }
 
-pub neighbours : (next back : ℕ → Option ℕ) (at : Option ℕ) (x : ℕ) (xs : List ℕ) → Chain next back None at xs → AreApart xs → 0 < times x xs → Neighbours next back x xs
+pub neighbours : (next back : ℕ → Option ℕ) (at : Option ℕ) (x : ℕ) (xs : List ℕ) → Chain next back None at xs → AreApart xs → 0 < times x xs
+    → Neighbours next back x xs
 neighbours next back at x xs chain apart there =
     let place = stands x xs [] there in
     let begin = begins next back None at xs chain in

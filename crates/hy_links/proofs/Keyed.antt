@@ -34,25 +34,32 @@ module _ {X : Type 0} (number : X → ℕ) where
   if_number_other : {Y : Type 0} (x : X) (n : ℕ) (a b : Y) → number x ≢ n → (if number x == n then a else b) ≡ b
   if_number_other x n a b differs = grind arith
 
-  numbered-passed : (one : Option X) (i n : ℕ) (rest : List X) → ((x : X) → one ≡ Some x → number x ≡ i) → i ≢ n → numbered number n (in_front one rest) ≡ numbered number n rest
+  numbered-passed : (one : Option X) (i n : ℕ) (rest : List X) → ((x : X) → one ≡ Some x → number x ≡ i) → i ≢ n
+      → numbered number n (in_front one rest) ≡ numbered number n rest
   numbered-passed None i n rest is differs = refl
   numbered-passed (Some x) i n rest is differs = if_number_other x n (Some x) (numbered number n rest) (λ same. differs (sym (is x refl) ∙ same))
 
-  changed-passed : (one : Option X) (i n : ℕ) (change : X → X) (rest : List X) → ((x : X) → one ≡ Some x → number x ≡ i) → i ≢ n → changed number n change (in_front one rest) ≡ in_front one (changed number n change rest)
+  changed-passed : (one : Option X) (i n : ℕ) (change : X → X) (rest : List X) → ((x : X) → one ≡ Some x → number x ≡ i) → i ≢ n
+      → changed number n change (in_front one rest) ≡ in_front one (changed number n change rest)
   changed-passed None i n change rest is differs = refl
   changed-passed (Some x) i n change rest is differs =
       ap (λ y. y ∷ changed number n change rest) (if_number_other x n (change x) x (λ same. differs (sym (is x refl) ∙ same)))
 
-  changed-here : (one now : Option X) (n : ℕ) (change : X → X) (rest : List X) → ((x : X) → one ≡ Some x → number x ≡ n) → ((x : X) → one ≡ Some x → now ≡ Some (change x)) → (one ≡ None → now ≡ None) → in_front now (changed number n change rest) ≡ changed number n change (in_front one rest)
+  changed-here : (one now : Option X) (n : ℕ) (change : X → X) (rest : List X) → ((x : X) → one ≡ Some x → number x ≡ n)
+      → ((x : X) → one ≡ Some x → now ≡ Some (change x)) → (one ≡ None → now ≡ None)
+      → in_front now (changed number n change rest) ≡ changed number n change (in_front one rest)
   changed-here None now n change rest is here none = rw (none refl) refl
   changed-here (Some x) now n change rest is here none =
       rw (here x refl) (ap (λ y. y ∷ changed number n change rest) (sym (if_number_same x n (change x) x (is x refl))))
 
-  without-passed : (one : Option X) (i n : ℕ) (rest : List X) → ((x : X) → one ≡ Some x → number x ≡ i) → i ≢ n → without number n (in_front one rest) ≡ in_front one (without number n rest)
+  without-passed : (one : Option X) (i n : ℕ) (rest : List X) → ((x : X) → one ≡ Some x → number x ≡ i) → i ≢ n
+      → without number n (in_front one rest) ≡ in_front one (without number n rest)
   without-passed None i n rest is differs = refl
-  without-passed (Some x) i n rest is differs = if_number_other x n (without number n rest) (x ∷ without number n rest) (λ same. differs (sym (is x refl) ∙ same))
+  without-passed (Some x) i n rest is differs =
+      if_number_other x n (without number n rest) (x ∷ without number n rest) (λ same. differs (sym (is x refl) ∙ same))
 
-  without-here : (one : Option X) (n : ℕ) (rest : List X) → ((x : X) → one ≡ Some x → number x ≡ n) → without number n (in_front one rest) ≡ without number n rest
+  without-here : (one : Option X) (n : ℕ) (rest : List X) → ((x : X) → one ≡ Some x → number x ≡ n)
+      → without number n (in_front one rest) ≡ without number n rest
   without-here None n rest is = refl
   without-here (Some x) n rest is = if_number_same x n (without number n rest) (x ∷ without number n rest) (is x refl)
 
@@ -87,7 +94,9 @@ module _ {X : Type 0} (number : X → ℕ) where
       here None is = numbered-nothing found places n is xs
       here (Some x) is = if_number_same x n (Some x) (numbered number n (gathered found xs)) (places.in_place n x is)
 
-  pub gathered-changed : (found now : ℕ → Option X) → AreInPlace found → (n : ℕ) (change : X → X) → ((i : ℕ) → i ≢ n → now i ≡ found i) → ((x : X) → found n ≡ Some x → now n ≡ Some (change x)) → (found n ≡ None → now n ≡ None) → (xs : List ℕ) → gathered now xs ≡ changed number n change (gathered found xs)
+  pub gathered-changed : (found now : ℕ → Option X) → AreInPlace found → (n : ℕ) (change : X → X) → ((i : ℕ) → i ≢ n → now i ≡ found i)
+      → ((x : X) → found n ≡ Some x → now n ≡ Some (change x)) → (found n ≡ None → now n ≡ None) → (xs : List ℕ)
+      → gathered now xs ≡ changed number n change (gathered found xs)
   gathered-changed found now places n change same here none [] = refl
   gathered-changed found now places n change same here none (i ∷ xs) =
       rw (gathered-changed found now places n change same here none xs) (elim (cases_eq i n) [
@@ -95,9 +104,13 @@ module _ {X : Type 0} (number : X → ℕ) where
         | inr differs ↦ rw (same i differs) (sym (changed-passed (found i) i n change (gathered found xs) (places.in_place i) differs))
       ])
 
-  pub gathered-dropped : (found now : ℕ → Option X) → AreInPlace found → (n : ℕ) → ((i : ℕ) → i ≢ n → now i ≡ found i) → (xs : List ℕ) → gathered now (dropped n xs) ≡ without number n (gathered found xs)
+  pub gathered-dropped : (found now : ℕ → Option X) → AreInPlace found → (n : ℕ) → ((i : ℕ) → i ≢ n → now i ≡ found i) → (xs : List ℕ)
+      → gathered now (dropped n xs) ≡ without number n (gathered found xs)
   gathered-dropped found now places n same [] = refl
   gathered-dropped found now places n same (i ∷ xs) = elim (cases_eq i n) [
-    | inl is ↦ rw is (rw (dropped-same n xs) (gathered-dropped found now places n same xs ∙ sym (without-here (found n) n (gathered found xs) (places.in_place n))))
-    | inr differs ↦ rw (dropped-other n i xs differs) (rw (same i differs, gathered-dropped found now places n same xs) (sym (without-passed (found i) i n (gathered found xs) (places.in_place i) differs)))
+    | inl is ↦ rw is (rw (dropped-same n xs) (gathered-dropped found now places n same xs
+        ∙ sym (without-here (found n) n (gathered found xs) (places.in_place n))))
+    | inr differs ↦
+        rw (dropped-other n i xs differs) (rw (same i differs, gathered-dropped found now places n same xs)
+        (sym (without-passed (found i) i n (gathered found xs) (places.in_place i) differs)))
   ]

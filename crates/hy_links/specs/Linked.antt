@@ -53,7 +53,7 @@ module _ {S X : Type 0} (layout : Layout S X) where
     pub in_use : (i : ℕ) → 0 < times i (newest_first slots newest) → ContainsKey slots i
     pub all : length (newest_first slots newest) ≡ slab_len slots
 
-  -- a slot is filled and put behind the newest
+  -- a slot is filled and put after the newest
   pub record IsPushed (old new : Slab S) (newest : Option ℕ) (index : ℕ) (record_put : X) : Type 0 where
     pub was_free : get old index ≡ None
     pub puts : PutsInFront (before_at old) (after_at old) (before_at new) (after_at new) newest index

@@ -15,7 +15,7 @@ pub struct Links {
 }
 
 impl Links {
-    /// The links of a member that is put in behind this one, the newest until now.
+    /// The links of a member that is put in after this one, the newest until now.
     pub fn newest(before: Option<u32>) -> Links
         ensures before { result.before ≡ before }
         ensures after { result.after ≡ None }

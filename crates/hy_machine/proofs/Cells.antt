@@ -1,5 +1,6 @@
 -- The program's frame, as the cells of a block.
-use Rattle.std.proofs.Common.{◌≡◌, ◌≤◌, ◌<◌, ℕ, zero, suc, ◌+◌, ◌-◌, ◌==◌, ◌&&◌, Bool, true, false, cond, List, [], ◌∷◌, length, take, drop, replicate, get_or, refl, ap, sym, ◌∙◌, ⊎_elim, arith}
+use Rattle.std.proofs.Common.{◌≡◌, ◌≤◌, ◌<◌, ℕ, zero, suc, ◌+◌, ◌-◌, ◌==◌, ◌&&◌, Bool, true, false, cond, List, [], ◌∷◌, length, take, drop, replicate}
+use Rattle.std.proofs.Common.{get_or, refl, ap, sym, ◌∙◌, ⊎_elim, arith}
 use Rattle.std.proofs.lemmas.Bool.{cases_lt}
 use Rattle.std.proofs.lemmas.Bool.Decides.{nat_tests}
 use Rattle.std.proofs.lemmas.List.{places, length-replicate, get_or-replicate, get_or_past, get_or-drop}
@@ -99,7 +100,9 @@ module _ (frame new : List Cell) (to words : ℕ) (size : length new ≡ words) 
 
 -- an unset frame
 unset_at : (n at : ℕ) → get_or (replicate n Unset) at Unset ≡ Unset
-unset_at n at = ⊎_elim (λ lt. get_or-replicate n at Unset Unset lt) (λ le. get_or_past (replicate n Unset) at Unset (let e = length-replicate n Unset in omega arith)) (cases_lt at n)
+unset_at n at =
+    ⊎_elim (λ lt. get_or-replicate n at Unset Unset lt) (λ le. get_or_past (replicate n Unset) at Unset (let e = length-replicate n Unset in omega arith))
+    (cases_lt at n)
 
 unset_in : (n block at : ℕ) → cells_of (replicate n Unset) block at ≡ big_states.Unset
 unset_in n block at =

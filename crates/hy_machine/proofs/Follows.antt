@@ -52,4 +52,5 @@ pub cut_print : (frame : List Cell) (word : ℕ) (shown : Shown) (n : ℤ) (old 
     lines.Prints shown n old new (Err c) → Prints frame word shown old new (Err (halt.Cut c))
 cut_print frame word shown n old new cause.Input is printed = absurd printed
 cut_print frame word shown n old new cause.Output is printed = let part = some_front old new (line_of shown n) printed in (n, part.0, is, tt, part.1)
-cut_print frame word shown n old new cause.NoMemory is printed = (n, 0, is, refl, subst (λ told. StillTells old told (Appends [])) (sym printed) (told_none old))
+cut_print frame word shown n old new cause.NoMemory is printed =
+    (n, 0, is, refl, subst (λ told. StillTells old told (Appends [])) (sym printed) (told_none old))

@@ -1,5 +1,6 @@
 -- Whole runs of the program are whole runs of the object.
-use Rattle.std.proofs.Common.{◌≡◌, ◌≢◌, inl, ℕ, zero, suc, ◌+◌, ◌-◌, ◌++◌, List, [], ◌∷◌, length, take, drop, false, Option, Some, None, slice_get, refl, ap, sym, ◌∙◌, subst, arith}
+use Rattle.std.proofs.Common.{◌≡◌, ◌≢◌, inl, ℕ, zero, suc, ◌+◌, ◌-◌, ◌++◌, List, [], ◌∷◌, length, take, drop, false, Option, Some, None, slice_get, refl}
+use Rattle.std.proofs.Common.{ap, sym, ◌∙◌, subst, arith}
 use Rattle.std.proofs.lemmas.List.{append-nil, drop_at}
 use Rattle.hy_base.specs.declared.run.Counts.{Counts}
 use Rattle.hy_base.specs.declared.run.End.{End}
@@ -16,7 +17,7 @@ use Rattle.hy_object.specs.Grammar.{IsInGrammar}
 use Rattle.hy_object.specs.Runs.{IsSafe, after, next_piece}
 use Rattle.hy_object.specs.States.{Stop, Ended, Allocated}
 use Rattle.hy_object.specs.Steps as object_steps
-use Rattle.hy_object.specs.Steps.{no_counts}
+use Rattle.hy_base.specs.Counted.{no_counts}
 use Rattle.hy_object.proofs.OneEnd as object_ends
 use Rattle.hy_machine.specs.Built.{IsBuilt}
 use Rattle.hy_machine.specs.Machine.{State, begin, seen, steps, words_of}
@@ -34,9 +35,11 @@ input_of None = []
 input_of (Some tape) = tape.left
 
 -- nothing is taken
-taken_none : (tape : Option Tape) (left : List ℕ) → left ≡ input_of tape → StillTells tape tape (IsTaken (input_of tape) (length (input_of tape) - length left))
+taken_none : (tape : Option Tape) (left : List ℕ) → left ≡ input_of tape
+    → StillTells tape tape (IsTaken (input_of tape) (length (input_of tape) - length left))
 taken_none None left h = tt
-taken_none (Some tape) left h = let z : length tape.left - length left ≡ 0 = rw h (omega arith) in rw z (record { whole = refl; left = refl; taken = sym (append-nil tape.taken) })
+taken_none (Some tape) left h = let z : length tape.left - length left ≡ 0 = rw h (omega arith) in
+    rw z (record { whole = refl; left = refl; taken = sym (append-nil tape.taken) })
 
 seen_at : (input : List ℕ) (s : State) (o : Option Stop) (e : Stop) → o ≡ Some e →
     seen input s o ≡ Some (record { output = s.output; stop = e; taken = length input - length s.input; counts = s.counts; journal = s.journal })
@@ -74,7 +77,8 @@ begins object (suc n) main m h f fresh = (n, λ input. rw (words_at (slice_get o
 module _ (object : Object) (n : ℕ) (in_grammar : IsInGrammar object) (built : IsBuilt object) where
   -- a state that the run comes to is an end
   ran : (k : ℕ) (tape : Option Tape) (old new : Option (List ℕ)) (e : End) (counts : Counts) (u : Unkept) (bytes : List ℕ) →
-      u.input ≡ input_of tape → u.output ≡ [] → IsEndAt (steps object k (begin object (input_of tape) n)) e counts (written u bytes) → StillTells old new (Appends bytes) →
+      u.input ≡ input_of tape → u.output ≡ [] → IsEndAt (steps object k (begin object (input_of tape) n)) e counts (written u bytes)
+      → StillTells old new (Appends bytes) →
       RanToItsEnd object n (told tape old) (told tape new) (Ended e) counts
   ran k tape old new e counts u bytes i o x t =
       let s : State = steps object k (begin object (input_of tape) n) in
@@ -90,19 +94,22 @@ module _ (object : Object) (n : ℕ) (in_grammar : IsInGrammar object) (built : 
       }
 
   -- with no turn
-  pub spent : (tape : Option Tape) (old : Option (List ℕ)) (counts : Counts) → n ≡ 0 → counts ≡ no_counts → RanToItsEnd object n (told tape old) (told tape old) (Ended end.Spent) counts
+  pub spent : (tape : Option Tape) (old : Option (List ℕ)) (counts : Counts) → n ≡ 0 → counts ≡ no_counts
+      → RanToItsEnd object n (told tape old) (told tape old) (Ended end.Spent) counts
   spent tape old counts z c =
       ran 0 tape old old end.Spent counts (record { input = input_of tape; output = []; left = 0; journal = [] }) [] refl refl
       (rw (z, c) (record { stop = refl; counts = refl; input = refl; output = refl })) (told_none old)
 
   -- what the next step writes
-  piece_is : (input : List ℕ) (k : ℕ) → (steps object k (begin object input n)).stop ≡ None → piece object (steps object k (begin object input n)) ≡ next_piece object (after object input false n k)
+  piece_is : (input : List ℕ) (k : ℕ) → (steps object k (begin object input n)).stop ≡ None
+      → piece object (steps object k (begin object input n)) ≡ next_piece object (after object input false n k)
   piece_is input k going =
       let s : State = steps object k (begin object input n) in
       let now : Alike s (after object input false n k) = alike object in_grammar built input false n k in
       let one : Alike (steps object 1 s) (object_steps.steps object 1 (after object input false n k)) =
       subst (λ t. Alike t (object_steps.steps object 1 (after object input false n k))) (steps_add object k 1 (begin object input n))
-      (subst (λ t. Alike (steps object (k + 1) (begin object input n)) t) (object_ends.steps_add object k 1 (object_steps.begin object input false n)) (alike object in_grammar built input false n (k + 1))) in
+      (subst (λ t. Alike (steps object (k + 1) (begin object input n)) t) (object_ends.steps_add object k 1 (object_steps.begin object input false n))
+      (alike object in_grammar built input false n (k + 1))) in
       sym ((λ j. drop (length (now.output j)) ((one.output ∙ step_writes object s going) j)) ∙ drop_at s.output (piece object s) (length s.output) refl)
 
   module _ (main : Fun) (m : Machine) (some : n ≢ 0) (first : slice_get object.funs 0 ≡ Some main) (fresh : IsStart m main.words) where

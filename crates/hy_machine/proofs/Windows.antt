@@ -27,7 +27,8 @@ move_is xs to from k t f h =
     (apart to from k h)
 
 -- a place that is reached lies in the frame
-reached_in : (xs : List Cell) (p : Place) (k : ℕ) → reached xs p k ≡ Ok tt → (nat_eq p.base 0 ≡ true) × (nat_le (p.offset + k) (length xs) ≡ true) × (p.offset + k ≤ length xs)
+reached_in : (xs : List Cell) (p : Place) (k : ℕ) → reached xs p k ≡ Ok tt → (nat_eq p.base 0 ≡ true) × (nat_le (p.offset + k) (length xs) ≡ true)
+    × (p.offset + k ≤ length xs)
 reached_in xs p k h = grind (arith, nat_tests)
 
 -- the words are moved: the answer of the instruction

@@ -1,5 +1,6 @@
 -- What a step writes.
-use Rattle.std.proofs.Common.{◌≡◌, ℕ, ◌+◌, Bool, true, false, [], ◌++◌, length, Option, Some, None, ℤ, ◌+ℤ◌, slice_get, slice_set, nat_eq, nat_le, replicate, if◌then◌else◌, refl, ap, sym, ◌∙◌}
+use Rattle.std.proofs.Common.{◌≡◌, ℕ, ◌+◌, Bool, true, false, [], ◌++◌, length, Option, Some, None, ℤ, ◌+ℤ◌, slice_get, slice_set, nat_eq, nat_le}
+use Rattle.std.proofs.Common.{replicate, if◌then◌else◌, refl, ap, sym, ◌∙◌}
 use Rattle.std.proofs.lemmas.List.{append-nil}
 use Rattle.hy_base.specs.declared.position.Span.{Span}
 use Rattle.hy_base.specs.declared.run.End.TheVariants as end
@@ -12,7 +13,8 @@ use Rattle.hy_object.specs.declared.stuck.Kind.{Kind}
 use Rattle.hy_object.specs.declared.stuck.Kind.TheVariants as kind
 use Rattle.hy_object.specs.Checks.{span_of}
 use Rattle.hy_object.specs.Words.{line_of}
-use Rattle.hy_machine.specs.Machine.{State, Cell, Unset, Word, step, next, fetched, does, check, word_in, reach, all_set, window, with_window, overlap, add, goes_on, ends, fits, code}
+use Rattle.hy_machine.specs.Machine.{State, Cell, Unset, Word, step, next, fetched, does, check, word_in, reach, all_set, window, with_window, overlap, add}
+use Rattle.hy_machine.specs.Machine.{goes_on, ends, fits, code}
 use Rattle.hy_machine.specs.Machine as program
 use Rattle.hy_machine.specs.Walks.{line_in, printed_by, piece}
 
@@ -36,7 +38,11 @@ kept_by_reach s p words next kept =
 
 kept_by_add : (s : State) (to : ℕ) (span : Span) (n : ℤ) → Keeps s (add s to span n)
 kept_by_add s to span n =
-    elim (fits n) as (λ b. Keeps s (if b then goes_on s (slice_set s.frame to (Word n)) else ends s (end.Trap trap.Overflow span))) [ true ↦ refl | false ↦ refl ]
+    elim (fits n) as (λ b. Keeps s (if b then goes_on s (slice_set s.frame to (Word n)) else ends s (end.Trap trap.Overflow span))) [
+      | true ↦ refl
+      | false ↦
+          refl
+    ]
 
 nothing : (s t : State) → Keeps s t → t.output ≡ s.output ++ []
 nothing s t kept = kept ∙ sym (append-nil s.output)
@@ -46,7 +52,8 @@ does_writes object s (instr.Const to value) = nothing s (does object s (instr.Co
 does_writes object s (instr.Copy to from words) =
     let last = goes_on s (with_window s.frame to.offset (window s.frame from.offset words)) in
     let set = check s kind.Unset (all_set (window s.frame from.offset words)) last in
-    nothing s (reach s to words (reach s from words set)) (kept_by_reach s to words (reach s from words set) (kept_by_reach s from words set (kept_by_check s kind.Unset (all_set (window s.frame from.offset words)) last refl)))
+    nothing s (reach s to words (reach s from words set)) (kept_by_reach s to words (reach s from words set)
+    (kept_by_reach s from words set (kept_by_check s kind.Unset (all_set (window s.frame from.offset words)) last refl)))
 does_writes object s (instr.Move to from words) =
     let last = goes_on s (with_window (with_window s.frame from.offset (replicate words Unset)) to.offset (window s.frame from.offset words)) in
     let set = check s kind.Unset (all_set (window s.frame from.offset words)) last in

@@ -54,7 +54,17 @@ pub record Unkept : Type 0 where
 
 -- the state of a run that goes on
 abbrev pub standing : Machine → Unkept → State
-standing m u = record { frame = m.frame.items; place = m.place; input = u.input; output = u.output; left = u.left; counts = m.counts; journal = u.journal; stop = None }
+standing m u = record {
+  frame = m.frame.items;
+  place = m.place;
+  input = u.input;
+  output = u.output;
+  left = u.left;
+  counts = m.counts;
+  journal =
+      u.journal;
+  stop = None;
+}
 
 -- The machine is at the start of `main`, with a frame of that many words.
 pub record IsStart (m : Machine) (words : ℕ) : Type 0 where
@@ -89,7 +99,7 @@ pub record EndsRun (object : Object) (i : Instr) (m m' : Machine) (old new : Opt
   pub told : new ≡ old
   pub no_asks : e ≢ end.Asks
 
--- The output failed, or memory was wanting: nothing was done but for some front of the line.
+-- The output failed, or memory ran out: nothing was done but for some front of the line.
 pub record IsCut (i : Instr) (m m' : Machine) (old new : Option (List ℕ)) (c : RunCause) : Type 0 where
   pub same : m' ≡ m
   pub front : ℕ
@@ -154,4 +164,5 @@ abbrev pub Prints : List Cell → ℕ → Shown → Option (List ℕ) → Option
 Prints frame word shown old new (Ok done) = (n : ℤ) × (word_of (slice_get frame word) ≡ Ok n) × StillTells old new (Appends (line_of shown n))
 Prints frame word shown old new (Err (halt.Ended e)) = ⊥
 Prints frame word shown old new (Err (halt.Stuck why)) = (word_of (slice_get frame word) ≡ Err (halt.Stuck why)) × (new ≡ old)
-Prints frame word shown old new (Err (halt.Cut c)) = (n : ℤ) × (front : ℕ) × (word_of (slice_get frame word) ≡ Ok n) × IsPart c front × StillTells old new (Appends (take front (line_of shown n)))
+Prints frame word shown old new (Err (halt.Cut c)) = (n : ℤ) × (front : ℕ) × (word_of (slice_get frame word) ≡ Ok n) × IsPart c front
+    × StillTells old new (Appends (take front (line_of shown n)))

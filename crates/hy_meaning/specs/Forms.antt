@@ -3,7 +3,7 @@ use Rattle.std.specs.Prelude.{ℕ, Bool, false, List, [], ◌∷◌, Option, Som
 use Rattle.hy_tree.specs.Tree as T
 
 -- VALUES
--- A value is a sum: a first operand, and operators behind it, each with its right operand.
+-- A value is a sum: a first operand, and operators after it, each with its right operand.
 
 abbrev pub first_of : T.Expr → T.Expr
 first_of (T.Chain first links at) = first

@@ -33,7 +33,9 @@ plus from to operand more = T.ThenLink (operator.Arithmetic arithmetic.Add) (spa
 
 -- `print(value)`
 abbrev pub print : T.Expr → ℕ → ℕ → T.Stmt
-print value from to = T.Evaluate (T.Postfix (named (codes "print") from to) (T.ThenStep (T.CallStep (T.ThenArg None value T.NoArg) (at from to)) T.NoStep) (at from to)) (at from to)
+print value from to =
+    T.Evaluate (T.Postfix (named (codes "print") from to) (T.ThenStep (T.CallStep (T.ThenArg None value T.NoArg) (at from to)) T.NoStep) (at from to))
+    (at from to)
 
 -- `fun main() { .. }`
 abbrev pub main : T.Stmts → T.Program
@@ -65,9 +67,17 @@ sum = main (T.ThenStmt (T.Binding introducer.Var (spelled (codes "x") 17 18) Non
 
 -- fun main() { print(9223372036854775807 + 1 + 1) }
 abbrev pub overflow : T.Program
-overflow = main (T.ThenStmt (print (T.Chain (number (pos 9223372036854775807) 19 38) (plus 19 42 (number (pos 1) 41 42) (plus 19 46 (number (pos 1) 45 46) T.NoLink)) (at 19 46)) 13 47) T.NoStmt)
+overflow = main (T.ThenStmt
+    (print (T.Chain (number (pos 9223372036854775807) 19 38) (plus 19 42 (number (pos 1) 41 42) (plus 19 46 (number (pos 1) 45 46) T.NoLink))
+    (at 19 46)) 13 47) T.NoStmt)
 
 pub record Rows : Type 0 where
   pub sum_is_printed : mean sum [] false 1000 ≡ record { output = codes "42" ++ 10 ∷ []; end = end.Done; taken = 0; turns = 1; opened = 0 }
-  pub sum_traps : mean overflow [] true 5 ≡ record { output = []; end = end.Trap trap.Overflow (record { from = 19; to = 42 }); taken = 0; turns = 1; opened = 0 }
+  pub sum_traps : mean overflow [] true 5 ≡ record {
+    output = [];
+    end = end.Trap trap.Overflow (record { from = 19; to = 42 });
+    taken = 0;
+    turns = 1;
+    opened = 0;
+  }
   pub no_turn : mean sum [] false 0 ≡ record { output = []; end = end.Spent; taken = 0; turns = 0; opened = 0 }

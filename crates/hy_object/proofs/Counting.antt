@@ -26,7 +26,8 @@ module _ (f new : Cells) (from words name : ℕ) where
   up_to : (n : ℕ) → n ≤ from → times_in n g name ≡ times_in n f name
   up_to zero l = refl
   up_to (suc n) l =
-      let cell : times_at (g n) name ≡ times_at (f n) name = ap (λ b. times_at (cond b (new (n - from)) (f n)) name) (before from words n (omega (arith, l))) in
+      let cell : times_at (g n) name ≡ times_at (f n) name =
+      ap (λ b. times_at (cond b (new (n - from)) (f n)) name) (before from words n (omega (arith, l))) in
       let rest = up_to n (omega (arith, l)) in
       omega (arith, cell, rest)
 
@@ -78,9 +79,11 @@ module _ (words : ℕ → ℕ) (cells : ℕ → Cells) (range : Range) (new : Ce
       (λ at. ap (λ e. cond (e && within range.from range.words at) (new (at - range.from)) (cells b at)) (ne_eqb b range.block h))
 
   here : range.from + range.words ≤ words range.block →
-      times_in (words range.block) (stored range.block) name + times_in range.words (window cells range) name ≡ times_in (words range.block) (cells range.block) name + times_in range.words new name
+      times_in (words range.block) (stored range.block) name + times_in range.words (window cells range) name ≡ times_in (words range.block)
+      (cells range.block) name + times_in range.words new name
   here l =
-      let as_one = same_cells (words range.block) (stored range.block) (λ at. cond (within range.from range.words at) (new (at - range.from)) (cells range.block at)) name
+      let as_one = same_cells (words range.block) (stored range.block)
+      (λ at. cond (within range.from range.words at) (new (at - range.from)) (cells range.block at)) name
       (λ at. ap (λ e. cond (e && within range.from range.words at) (new (at - range.from)) (cells range.block at)) (eq-eqb range.block range.block refl)) in
       let sum = whole (cells range.block) new range.from range.words name (words range.block) l in
       omega (arith, as_one, sum)
@@ -103,11 +106,13 @@ module _ (words : ℕ → ℕ) (cells : ℕ → Cells) (range : Range) (new : Ce
       (λ le.
       let same : n ≡ range.block = omega (arith, le, l) in
       let rest = below n (omega (arith, same)) in
-      let block : times_in (words n) (stored n) name + times_in range.words (window cells range) name ≡ times_in (words n) (cells n) name + times_in range.words new name = rw same (here m) in
+      let block : times_in (words n) (stored n) name + times_in range.words (window cells range) name ≡ times_in (words n) (cells n) name + times_in
+      range.words new name = rw same (here m) in
       omega (arith, rest, block))
       (cases_lt range.block n)
 
-untouched : (n m : ℕ) (words : ℕ → ℕ) (cells : ℕ → Cells) (size : ℕ) (first : Cells) (name : ℕ) → n ≤ m → times n (with_at words m size) (with_at cells m first) name ≡ times n words cells name
+untouched : (n m : ℕ) (words : ℕ → ℕ) (cells : ℕ → Cells) (size : ℕ) (first : Cells) (name : ℕ) → n ≤ m
+    → times n (with_at words m size) (with_at cells m first) name ≡ times n words cells name
 untouched zero m words cells size first name l = refl
 untouched (suc n) m words cells size first name l =
     let rest = untouched n m words cells size first name (omega (arith, l)) in
@@ -115,8 +120,10 @@ untouched (suc n) m words cells size first name l =
     ap (λ e. times_in (cond e size (words n)) (cond e first (cells n)) name) (ne_eqb n m (λ e. omega (arith, e, l))) in
     omega (arith, rest, block)
 
-pub taken_block : (n : ℕ) (words : ℕ → ℕ) (cells : ℕ → Cells) (size : ℕ) (first : Cells) (name : ℕ) → times (suc n) (with_at words n size) (with_at cells n first) name ≡ times n words cells name + times_in size first name
+pub taken_block : (n : ℕ) (words : ℕ → ℕ) (cells : ℕ → Cells) (size : ℕ) (first : Cells) (name : ℕ)
+    → times (suc n) (with_at words n size) (with_at cells n first) name ≡ times n words cells name + times_in size first name
 taken_block n words cells size first name =
     let rest = untouched n n words cells size first name (omega arith) in
-    let block : times_in (with_at words n size n) (with_at cells n first n) name ≡ times_in size first name = ap (λ e. times_in (cond e size (words n)) (cond e first (cells n)) name) (eq-eqb n n refl) in
+    let block : times_in (with_at words n size n) (with_at cells n first n) name ≡ times_in size first name =
+    ap (λ e. times_in (cond e size (words n)) (cond e first (cells n)) name) (eq-eqb n n refl) in
     omega (arith, rest, block)

@@ -1,5 +1,6 @@
 -- Every run ends: each step takes a turn, or leaves less code in all activations together.
-use Rattle.std.proofs.Common.{◌≡◌, ℕ, zero, suc, ◌+◌, ◌-◌, ◌<◌, ◌≤◌, Bool, true, false, cond, ◌==◌, List, [], ◌∷◌, length, Option, Some, None, refl, sym, ap, arith}
+use Rattle.std.proofs.Common.{◌≡◌, ℕ, zero, suc, ◌+◌, ◌-◌, ◌<◌, ◌≤◌, Bool, true, false, cond, ◌==◌, List, [], ◌∷◌, length, Option, Some, None, refl, sym}
+use Rattle.std.proofs.Common.{ap, arith}
 use Rattle.hy_object.specs.declared.instr.Instr.{Instr}
 use Rattle.hy_object.specs.declared.object.Object.{Object}
 use Rattle.hy_object.specs.declared.stuck.Kind.TheVariants as kind
@@ -9,7 +10,8 @@ use Rattle.hy_object.specs.Controls as k
 use Rattle.hy_object.specs.Controls.{Taken, taken}
 use Rattle.hy_object.specs.Steps.{does, does_some, step, step_from, steps, begin}
 use Rattle.hy_object.specs.Runs.{Run, EveryRunEnds, seen}
-use Rattle.hy_object.specs.Changes.{Change, Sticks, Traps, Spends, Asks, Stores, Prints, Lends, Closes, Takes, Frees, Moves, Jumps, Repeats, Starts, Returns, Yields, Slides}
+use Rattle.hy_object.specs.Changes.{Change, Sticks, Traps, Spends, Asks, Stores, Prints, Lends, Closes, Takes, Frees, Moves, Jumps, Repeats, Starts}
+use Rattle.hy_object.specs.Changes.{Returns, Yields, Slides}
 use Rattle.hy_object.proofs.Changing.{changes_by}
 
 -- THE MEASURE
@@ -40,7 +42,8 @@ beside_total a (Some y) n h x q =
 
 taken_from : (frame : ℕ) (a : Activation) (rest : List Activation) (b : Bool) →
     ((x : Taken) → taken frame rest ≡ Some x → rest_of x.found + rests_of x.others ≡ rests_of rest) →
-    (x : Taken) → cond b (Some (record { found = a; others = rest })) (k.beside a (taken frame rest)) ≡ Some x → rest_of x.found + rests_of x.others ≡ rest_of a + rests_of rest
+    (x : Taken) → cond b (Some (record { found = a; others = rest })) (k.beside a (taken frame rest)) ≡ Some x
+    → rest_of x.found + rests_of x.others ≡ rest_of a + rests_of rest
 taken_from frame a rest true h x q = let is : record { found = a; others = rest } ≡ x = cc in rw (sym is) refl
 taken_from frame a rest false h x q = beside_total a (taken frame rest) (rests_of rest) h x q
 
@@ -81,7 +84,8 @@ nth_more [] i x q = absurd (cc)
 nth_more (y ∷ xs) zero x q = omega arith
 nth_more (y ∷ xs) (suc i) x q = let l = nth_more xs i x q in omega (arith, l)
 
-falls_at : (object : Object) (t u : ℕ) (s : State) → s.left ≡ t → total s ≤ u → (o : Option Instr) → nth s.now.fun.code s.now.place ≡ o → Falls t u (does_some object s o)
+falls_at : (object : Object) (t u : ℕ) (s : State) → s.left ≡ t → total s ≤ u → (o : Option Instr) → nth s.now.fun.code s.now.place ≡ o
+    → Falls t u (does_some object s o)
 falls_at object t u s same bound None q = stops (Stuck kind.Range (record { fun = s.now.number; at = s.now.place })) refl
 falls_at object t u s same bound (Some i) q = falls t u s (does object s i) same (nth_more s.now.fun.code s.now.place i q) bound (changes_by object s i)
 
@@ -94,14 +98,16 @@ falls_by_step object t u s (Some e) q same bound = stops e q
 abbrev Ends : Object → State → Type 0
 Ends object s = (n : ℕ) × (e : Stop) × ((steps object n s).stop ≡ Some e)
 
-ends_by : (object : Object) (t u : ℕ) (s : State) → ((r : State) → r.left < t → Ends object r) → ((r : State) → r.left ≡ t → total r < u → Ends object r) → Falls t u (step object s) → Ends object s
+ends_by : (object : Object) (t u : ℕ) (s : State) → ((r : State) → r.left < t → Ends object r) → ((r : State) → r.left ≡ t → total r < u → Ends object r)
+    → Falls t u (step object s) → Ends object s
 ends_by object t u s up down (stops e q) = (1, e, q)
 ends_by object t u s up down (takes q) = let r = up (step object s) q in (suc r.0, r.1, r.2)
 ends_by object t u s up down (less q l) = let r = down (step object s) q l in (suc r.0, r.1, r.2)
 
 ends_go : (object : Object) (t : ℕ) → ((s : State) → s.left < t → Ends object s) → (u : ℕ) (s : State) → s.left ≡ t → total s ≤ u → Ends object s
 ends_go object t up zero s same bound = ends_by object t zero s up (λ r q l. absurd (omega (arith, l))) (falls_by_step object t zero s s.stop refl same bound)
-ends_go object t up (suc u) s same bound = ends_by object t (suc u) s up (λ r q l. ends_go object t up u r q (omega (arith, l))) (falls_by_step object t (suc u) s s.stop refl same bound)
+ends_go object t up (suc u) s same bound =
+    ends_by object t (suc u) s up (λ r q l. ends_go object t up u r q (omega (arith, l))) (falls_by_step object t (suc u) s s.stop refl same bound)
 
 ends_below : (object : Object) (t : ℕ) (s : State) → s.left < t → Ends object s
 ends_below object zero s l = absurd (omega (arith, l))

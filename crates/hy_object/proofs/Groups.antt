@@ -23,7 +23,8 @@ signed_groups_more : (negative : Bool) (k n : ℕ) → n < limit k 64 → signed
 signed_groups_more negative zero n h = rw (is_below n 64 h) refl
 signed_groups_more negative (suc k) n h =
     ⊎_elim (λ b. rw (is_below n 64 b) refl)
-    (λ b. rw (not_below n 64 b) (ap (λ gs. (128 + low_group negative (n % 128)) ∷ gs) (signed_groups_more negative k (n / 128) (div_below n 128 (limit k 64) (lit< tt) h))))
+    (λ b. rw (not_below n 64 b)
+    (ap (λ gs. (128 + low_group negative (n % 128)) ∷ gs) (signed_groups_more negative k (n / 128) (div_below n 128 (limit k 64) (lit< tt) h))))
     (cases_lt n 64)
 
 pub count_last : (n : ℕ) → n < 128 → count_bytes n ≡ n ∷ []
@@ -38,9 +39,12 @@ pub signed_last : (negative : Bool) (n : ℕ) → n < 64 → signed_bytes negati
 unfolding signed_bytes
 signed_last negative n h = rw (is_below n 64 h) refl
 
-pub signed_more : (negative : Bool) (n : ℕ) → n < 2 ^ 64 → 64 ≤ n → signed_bytes negative n ≡ (128 + low_group negative (n % 128)) ∷ signed_bytes negative (n / 128)
+pub signed_more : (negative : Bool) (n : ℕ) → n < 2 ^ 64 → 64 ≤ n → signed_bytes negative n ≡ (128 + low_group negative (n % 128)) ∷
+    signed_bytes negative (n / 128)
 unfolding signed_bytes
-signed_more negative n small h = rw (not_below n 64 h) (ap (λ gs. (128 + low_group negative (n % 128)) ∷ gs) (sym (signed_groups_more negative 8 (n / 128) (div_below n 128 _ (lit< tt) (omega arith)))))
+signed_more negative n small h =
+    rw (not_below n 64 h)
+    (ap (λ gs. (128 + low_group negative (n % 128)) ∷ gs) (sym (signed_groups_more negative 8 (n / 128) (div_below n 128 _ (lit< tt) (omega arith)))))
 
 -- One more group was pushed: what is still to be written follows on it.
 pub one_more : (was now xs rest all ys : List ℕ) (byte : ℕ) → was ++ all ≡ xs ++ ys → all ≡ byte ∷ rest → now ≡ was ++ byte ∷ [] → now ++ rest ≡ xs ++ ys

@@ -1,4 +1,4 @@
--- Fields put one behind the other.
+-- Fields put one after the other.
 use Rattle.std.proofs.Common.{◌≡◌, ℕ, List, [], ◌∷◌, ◌++◌, refl, ap, ◌∙◌, flat_map}
 use Rattle.std.specs.Prelude.{map}
 use Rattle.std.specs.List.{concat}
@@ -22,12 +22,16 @@ concat_flat_map f (x ∷ xs) = concat-append (f x) (flat_map f xs) ∙ ap (λ (t
 pub fun_written : (fun : Fun) (old sizes counted all : List ℕ) (places : ℕ)
     → sizes ≡ old ++ flat_map count_bytes (fun.accesses ∷ fun.owned ∷ fun.result ∷ fun.words ∷ fun.slots ∷ [])
     → counted ≡ sizes ++ count_bytes places → all ≡ counted ++ flat_map instr_bytes fun.code
-    → all ≡ old ++ (count_bytes fun.accesses ++ (count_bytes fun.owned ++ (count_bytes fun.result ++ (count_bytes fun.words ++ (count_bytes fun.slots ++ (count_bytes places ++ concat (map instr_bytes fun.code)))))))
+    → all ≡ old ++ (count_bytes
+    fun.accesses ++ (count_bytes
+    fun.owned ++ (count_bytes
+    fun.result ++ (count_bytes fun.words ++ (count_bytes fun.slots ++ (count_bytes places ++ concat (map instr_bytes fun.code)))))))
 fun_written fun old sizes counted all places s c a = a ∙ rw (c, s, concat_map) (simp (append_assoc, append-nil))
 
 -- an object, written in five parts
 pub object_written : (object : Object) (header one two three all : List ℕ) (spans funs : ℕ)
-    → one ≡ header ++ count_bytes spans → two ≡ one ++ flat_map span_bytes object.spans → three ≡ two ++ count_bytes funs → all ≡ three ++ flat_map fun_bytes object.funs
+    → one ≡ header ++ count_bytes spans → two ≡ one ++ flat_map span_bytes object.spans → three ≡ two ++ count_bytes funs
+    → all ≡ three ++ flat_map fun_bytes object.funs
     → all ≡ header ++ (count_bytes spans ++ concat (map span_bytes object.spans ++ (count_bytes funs ∷ flat_map fun_fields object.funs)))
 object_written object header one two three all spans funs a b c d =
     d ∙ rw (c, b, a, concat-append, concat_map, concat_flat_map) (simp append_assoc)

@@ -1,7 +1,8 @@
--- What `Read` leaves of the input is what stands behind the bytes that it took.
+-- What `Read` leaves of the input is what stands after the bytes that it took.
 use Rattle.std.proofs.Common.{◌≡◌, ℕ, zero, suc, Bool, true, false, List, [], ◌∷◌, ◌++◌, Option, Some, None, ℤ, ◌==◌, if◌then◌else◌, refl, ap, sym}
 use Rattle.std.proofs.lemmas.List.{append-nil}
-use Rattle.hy_base.specs.Lines.{Split, Line, Last, TooLong, ahead, split_line, trimmed, number_of, Got, Gives, Fails, Wants, got, got_last, got_line, read_line}
+use Rattle.hy_base.specs.Lines.{Split, Line, Last, TooLong, ahead, split_line, trimmed, number_of}
+use Rattle.hy_base.specs.Lines.{Got, Gives, Fails, Wants, got, got_last, got_line, read_line}
 
 -- the list ends with that one
 abbrev pub EndsWith : List ℕ → List ℕ → Type 0

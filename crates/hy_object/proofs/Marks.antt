@@ -21,10 +21,12 @@ mark_taken (m ∷ mark) (b ∷ bytes) rest e =
     ]
 
 -- no mark is read where the bytes do not begin with it
-mark_missed : (mark bytes : List ℕ) (found : Option (Unit {0} × List ℕ)) → found ≡ read_mark mark bytes → ((rest : List ℕ) → bytes ≢ mark ++ rest) → read_mark mark bytes ≡ None
+mark_missed : (mark bytes : List ℕ) (found : Option (Unit {0} × List ℕ)) → found ≡ read_mark mark bytes → ((rest : List ℕ) → bytes ≢ mark ++ rest)
+    → read_mark mark bytes ≡ None
 mark_missed mark bytes None e h = sym e
 mark_missed mark bytes (Some (t, rest)) e h = absurd (h rest (mark_taken mark bytes rest (sym e)))
 
-pub mark_found : (mark bytes : List ℕ) (found : Option (Bor (List ℕ))) → MatchOption found ((rest : List ℕ) → bytes ≢ mark ++ rest) (λ x. bytes ≡ mark ++ x.now) → Finds (λ x. (tt, x.now)) found (read_mark mark bytes)
+pub mark_found : (mark bytes : List ℕ) (found : Option (Bor (List ℕ)))
+    → MatchOption found ((rest : List ℕ) → bytes ≢ mark ++ rest) (λ x. bytes ≡ mark ++ x.now) → Finds (λ x. (tt, x.now)) found (read_mark mark bytes)
 mark_found mark bytes None h = mark_missed mark bytes _ refl h
 mark_found mark bytes (Some x) h = ap (read_mark mark) h ∙ mark_again mark x.now

@@ -1,9 +1,11 @@
 -- How often a name stands in memory, where cells are stored over or move.
-use Rattle.std.proofs.Common.{◌≡◌, ℕ, zero, suc, ◌+◌, ◌-◌, ◌<◌, ◌≤◌, Bool, true, false, cond, not, nat_lt, ◌&&◌, ◌==◌, refl, sym, ap, ◌∙◌, ⊎_elim, subst, arith}
+use Rattle.std.proofs.Common.{◌≡◌, ℕ, zero, suc, ◌+◌, ◌-◌, ◌<◌, ◌≤◌, Bool, true, false, cond, not}
+use Rattle.std.proofs.Common.{nat_lt, ◌&&◌, ◌==◌, refl, sym, ap, ◌∙◌, ⊎_elim, subst, arith}
 use Rattle.std.proofs.lemmas.Bool.{cases_lt, cases_Bool, lt-ltb, le-ltb, ltb-true, eq-eqb, ne_eqb, eqb-true}
 use Rattle.hy_object.specs.Checks.{meets, is_name}
 use Rattle.hy_object.specs.Names.{times_at, times_in, times, InBlock, NamesAreCounted}
-use Rattle.hy_object.specs.States.{Cell, Unset, Word, Name, Cells, Range, with_at, with_cells, window, within, unset, moved, moved_to_new, first_cells, all_below}
+use Rattle.hy_object.specs.States.{Cell, Unset, Word, Name, Cells, Range, with_at, with_cells, window, within, unset, moved, moved_to_new, first_cells}
+use Rattle.hy_object.specs.States.{all_below}
 use Rattle.hy_object.proofs.Counting.{above, taken_block}
 
 -- TRUTH VALUES
@@ -46,7 +48,8 @@ none_unset : (n : ℕ) (name : ℕ) → times_in n unset name ≡ 0
 none_unset n name = none_in n unset name (λ at l. refl)
 
 -- a store outside leaves the cell
-outside : (cells : ℕ → Cells) (a b : Range) (new : Cells) (i : ℕ) → meets a b ≡ false → i < b.words → with_cells cells a new b.block (b.from + i) ≡ cells b.block (b.from + i)
+outside : (cells : ℕ → Cells) (a b : Range) (new : Cells) (i : ℕ) → meets a b ≡ false → i < b.words
+    → with_cells cells a new b.block (b.from + i) ≡ cells b.block (b.from + i)
 outside cells a b new i apart l =
     let here : Bool = (b.block == a.block) && within a.from a.words (b.from + i) in
     ⊎_elim
@@ -72,14 +75,16 @@ outside cells a b new i apart l =
     (cases_Bool here)
 
 -- the names in a range that a store does not meet
-outside_in : (cells : ℕ → Cells) (a b : Range) (new : Cells) (name : ℕ) → meets a b ≡ false → times_in b.words (window (with_cells cells a new) b) name ≡ times_in b.words (window cells b) name
+outside_in : (cells : ℕ → Cells) (a b : Range) (new : Cells) (name : ℕ) → meets a b ≡ false
+    → times_in b.words (window (with_cells cells a new) b) name ≡ times_in b.words (window cells b) name
 outside_in cells a b new name apart =
     same_in b.words (window (with_cells cells a new) b) (window cells b) name (λ i l. ap (λ c. times_at c name) (outside cells a b new i apart l))
 
 module _ (blocks : ℕ) (words : ℕ → ℕ) (name : ℕ) where
   -- a store over a range
   stored : (cells : ℕ → Cells) (range : Range) (new : Cells) → InBlock blocks words range →
-      times blocks words (with_cells cells range new) name + times_in range.words (window cells range) name ≡ times blocks words cells name + times_in range.words new name
+      times blocks words (with_cells cells range new) name + times_in range.words (window cells range) name ≡ times blocks words cells name + times_in
+      range.words new name
   stored cells range new h = above words cells range new name blocks h.block h.cells
 
   -- what one range holds goes to another
@@ -90,16 +95,19 @@ module _ (blocks : ℕ) (words : ℕ → ℕ) (name : ℕ) where
       let two = stored (with_cells cells to (window cells from)) from unset hf in
       let gone = none_unset from.words name in
       let left = outside_in cells to from (window cells from) name apart in
-      let width : times_in to.words (window cells from) name ≡ times_in from.words (window cells from) name = ap (λ k. times_in k (window cells from) name) same in
+      let width : times_in to.words (window cells from) name ≡ times_in from.words (window cells from) name =
+      ap (λ k. times_in k (window cells from) name) same in
       omega (arith, one, two, gone, left, width)
 
 -- the cells that move to the front of a new block
-first_in : (cells : ℕ → Cells) (range : Range) (name n : ℕ) → n ≤ range.words → times_in n (first_cells cells range) name ≡ times_in n (window cells range) name
+first_in : (cells : ℕ → Cells) (range : Range) (name n : ℕ) → n ≤ range.words
+    → times_in n (first_cells cells range) name ≡ times_in n (window cells range) name
 first_in cells range name n l =
     same_in n (first_cells cells range) (window cells range) name
     (λ at m. ap (λ b. times_at (cond b (window cells range at) Unset) name) (lt-ltb at range.words (omega (arith, l, m))))
 
-first_times : (cells : ℕ → Cells) (range : Range) (name more : ℕ) → times_in (range.words + more) (first_cells cells range) name ≡ times_in range.words (window cells range) name
+first_times : (cells : ℕ → Cells) (range : Range) (name more : ℕ)
+    → times_in (range.words + more) (first_cells cells range) name ≡ times_in range.words (window cells range) name
 first_times cells range name zero = let same : range.words + 0 ≡ range.words = omega arith in rw same (first_in cells range name range.words (omega arith))
 first_times cells range name (suc more) =
     let same : range.words + suc more ≡ suc (range.words + more) = omega arith in
@@ -110,7 +118,8 @@ first_times cells range name (suc more) =
 
 still_in : (n size : ℕ) (words : ℕ → ℕ) (range : Range) → InBlock n words range → InBlock (suc n) (with_at words n size) range
 still_in n size words range h =
-    let same : with_at words n size range.block ≡ words range.block = ap (λ b. cond b size (words range.block)) (ne_eqb range.block n (λ e. let l = h.block in omega (arith, e, l))) in
+    let same : with_at words n size range.block ≡ words range.block =
+    ap (λ b. cond b size (words range.block)) (ne_eqb range.block n (λ e. let l = h.block in omega (arith, e, l))) in
     record { block = let l = h.block in omega (arith, l); cells = subst (λ k. range.from + range.words ≤ k) (sym same) h.cells }
 
 moved_away : (n : ℕ) (words : ℕ → ℕ) (cells : ℕ → Cells) (range : Range) (size : ℕ) (name : ℕ) → InBlock n words range → range.words ≤ size →
@@ -125,7 +134,8 @@ moved_away n words cells range size name h l =
     ap (λ k. times_in k (first_cells cells range) name) sizes ∙ first_times cells range name (size - range.words) in
     let left : times_in range.words (window there range) name ≡ times_in range.words (window cells range) name =
     same_in range.words (window there range) (window cells range) name
-    (λ i m. ap (λ b. times_at (cond b (first_cells cells range) (cells range.block) (range.from + i)) name) (ne_eqb range.block n (λ e. let k = h.block in omega (arith, e, k)))) in
+    (λ i m. ap (λ b. times_at (cond b (first_cells cells range) (cells range.block) (range.from + i)) name)
+    (ne_eqb range.block n (λ e. let k = h.block in omega (arith, e, k)))) in
     omega (arith, one, two, gone, first, left)
 
 pub names_are_counted : NamesAreCounted

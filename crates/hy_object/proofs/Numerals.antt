@@ -1,5 +1,6 @@
 -- A number that is read is the one that is spelled there, and one that is spelled is read.
-use Rattle.std.proofs.Common.{◌≡◌, ℕ, zero, suc, ◌+◌, ◌-◌, ◌*◌, ◌/◌, ◌%◌, ◌^◌, ◌<◌, ◌≤◌, Bool, true, false, List, [], ◌∷◌, ◌++◌, nat_lt, nat_eq, Option, Some, None, ⊎_elim, refl, ap, sym, subst, ◌∙◌, lit<, arith, inl, inr}
+use Rattle.std.proofs.Common.{◌≡◌, ℕ, zero, suc, ◌+◌, ◌-◌, ◌*◌, ◌/◌, ◌%◌, ◌^◌, ◌<◌, ◌≤◌, Bool, true, false, List, [], ◌∷◌, ◌++◌, nat_lt, nat_eq, Option}
+use Rattle.std.proofs.Common.{Some, None, ⊎_elim, refl, ap, sym, subst, ◌∙◌, lit<, arith, inl, inr}
 use Rattle.std.proofs.lemmas.Bool.{cases_lt}
 use Rattle.std.proofs.lemmas.Nat.{div_below}
 use Rattle.hy_object.specs.declared.number.Signed.{Signed}
@@ -17,8 +18,13 @@ joined_takes low n rest (Some (high, behind)) e =
     let p = passed (nat_eq high 0) _ _ e in
     let q = kept (nat_lt high (2 ^ 25)) _ _ p.1 in
     let same : Some (128 * high + low, behind) ≡ Some (n, rest) = q.1 in
-    let pair = some_is _ _ same in
-    (high, ap (λ (r : List ℕ). Some (high, r)) (ap (λ (x : ℕ × List ℕ). x.1) pair), other high 0 p.0, below high (2 ^ 25) q.0, sym (ap (λ (x : ℕ × List ℕ). x.0) pair))
+    let pair = some_is _ _ same in (
+      high,
+      ap (λ (r : List ℕ). Some (high, r)) (ap (λ (x : ℕ × List ℕ). x.1) pair),
+      other high 0 p.0,
+      below high (2 ^ 25) q.0,
+      sym (ap (λ (x : ℕ × List ℕ). x.0) pair),
+    )
 
 one_group_spelled : (k n : ℕ) → n < 128 → groups (suc k) n ≡ n ∷ []
 one_group_spelled k n h = rw (is_below n 128 h) refl
@@ -89,23 +95,30 @@ low_group_small false group h = h
 low_group_small true group h = omega arith
 
 with_group_taken : (group : ℕ) (high s : Signed) → with_group group high ≡ Some s
-    → (high.number < 2 ^ 56) × (64 ≤ 128 * high.number + low_group high.negative group) × (record { negative = high.negative; number = 128 * high.number + low_group high.negative group } ≡ s)
+    → (high.number < 2 ^ 56) × (64 ≤ 128 * high.number + low_group high.negative group)
+    × (record { negative = high.negative; number = 128 * high.number + low_group high.negative group } ≡ s)
 with_group_taken group high s e =
     let p = kept (nat_lt high.number (2 ^ 56)) _ _ e in
     let q = passed (nat_lt (128 * high.number + low_group high.negative group) 64) _ _ p.1 in
     (below high.number (2 ^ 56) p.0, at_least _ 64 q.0, some_is _ _ q.1)
 
-signed_joined_takes : (group : ℕ) (s : Signed) (rest : List ℕ) (o : Option (Signed × List ℕ)) → signed_joined group o ≡ Some (s, rest) → (high : Signed) × (o ≡ Some (high, rest)) × (with_group group high ≡ Some s)
+signed_joined_takes : (group : ℕ) (s : Signed) (rest : List ℕ) (o : Option (Signed × List ℕ)) → signed_joined group o ≡ Some (s, rest) → (high : Signed)
+    × (o ≡ Some (high, rest)) × (with_group group high ≡ Some s)
 signed_joined_takes group s rest None e = absurd cc
 signed_joined_takes group s rest (Some (high, behind)) e =
     let p = and_then_some (λ (t : Signed). Some (t, behind)) (with_group group high) (s, rest) e in
-    let pair = some_is _ _ p.2 in
-    (high, ap (λ (r : List ℕ). Some (high, r)) (ap (λ (x : Signed × List ℕ). x.1) pair), p.1 ∙ ap (λ (t : Signed). Some t) (ap (λ (x : Signed × List ℕ). x.0) pair))
+    let pair = some_is _ _ p.2 in (
+      high,
+      ap (λ (r : List ℕ). Some (high, r)) (ap (λ (x : Signed × List ℕ). x.1) pair),
+      p.1
+          ∙ ap (λ (t : Signed). Some t) (ap (λ (x : Signed × List ℕ). x.0) pair),
+    )
 
 last_group_spelled : (k b : ℕ) → b < 128 → signed_groups (suc k) (last_group b).negative (last_group b).number ≡ b ∷ []
 last_group_spelled k b h =
     ⊎_elim (λ lt. rw (is_below b 64 lt, is_below b 64 lt) refl)
-    (λ ge. let small : 127 - b < 64 = omega arith in let back : 127 - (127 - b) ≡ b = omega arith in rw (not_below b 64 ge, is_below (127 - b) 64 small, back) refl)
+    (λ ge. let small : 127 - b < 64 = omega arith in let back : 127 - (127 - b) ≡ b = omega arith in
+    rw (not_below b 64 ge, is_below (127 - b) 64 small, back) refl)
     (cases_lt b 64)
 
 last_group_small : (b : ℕ) → b < 128 → (last_group b).number < 2 ^ 63
@@ -123,7 +136,8 @@ more_signed_spelled k b high negative ge lt large =
     let whole : 128 + (b - 128) ≡ b = omega arith in
     rw (not_below n 64 large, low, rest, back, whole) refl
 
-pub signed_taken : (k : ℕ) (s : Signed) (bytes rest : List ℕ) → read_signed k bytes ≡ Some (s, rest) → (bytes ≡ signed_groups k s.negative s.number ++ rest) × (s.number < 2 ^ 63)
+pub signed_taken : (k : ℕ) (s : Signed) (bytes rest : List ℕ) → read_signed k bytes ≡ Some (s, rest) → (bytes ≡ signed_groups k s.negative s.number ++ rest)
+    × (s.number < 2 ^ 63)
 unfolding read_signed
 signed_taken zero s bytes rest e = absurd cc
 signed_taken (suc k) s [] rest e = absurd cc
@@ -151,11 +165,17 @@ signed_taken (suc k) s (b ∷ bytes) rest e =
 pub signed_fits : (s : Signed) (bytes rest : List ℕ) → read_signed 10 bytes ≡ Some (s, rest) → s.number < 2 ^ 63
 signed_fits s bytes rest e = (signed_taken 10 s bytes rest e).1
 
-last_group_again : (n : ℕ) (negative : Bool) → n < 64 → (low_group negative n < 128) × (last_group (low_group negative n) ≡ record { negative = negative; number = n })
+last_group_again : (n : ℕ) (negative : Bool) → n < 64 → (low_group negative n < 128)
+    × (last_group (low_group negative n) ≡ record { negative = negative; number = n })
 last_group_again n false h = (omega arith, rw (is_below n 64 h) refl)
-last_group_again n true h = (omega arith, let large : 64 ≤ 127 - n = omega arith in let back : 127 - (127 - n) ≡ n = omega arith in rw (not_below (127 - n) 64 large, back) refl)
+last_group_again n true h = (
+  omega arith,
+  let large : 64 ≤ 127 - n = omega arith in let back : 127 - (127 - n) ≡ n = omega arith in
+      rw (not_below (127 - n) 64 large, back) refl,
+)
 
-pub signed_again : (k n : ℕ) (negative : Bool) (rest : List ℕ) → n < limit k 64 → n < 2 ^ 63 → read_signed (suc k) (signed_groups (suc k) negative n ++ rest) ≡ Some (record { negative = negative; number = n }, rest)
+pub signed_again : (k n : ℕ) (negative : Bool) (rest : List ℕ) → n < limit k 64 → n < 2 ^ 63
+    → read_signed (suc k) (signed_groups (suc k) negative n ++ rest) ≡ Some (record { negative = negative; number = n }, rest)
 unfolding read_signed
 signed_again zero n negative rest h small = let g = last_group_again n negative h in rw (is_below n 64 h, is_below (low_group negative n) 128 g.0, g.1) refl
 signed_again (suc k) n negative rest h small =
@@ -170,5 +190,15 @@ signed_again (suc k) n negative rest h small =
     let less : 128 + group - 128 ≡ group = omega arith in
     let back : low_group negative group ≡ n % 128 = low_group_back negative (n % 128) (omega arith) in
     let whole : 128 * (n / 128) + n % 128 ≡ n = omega arith in
-    rw (not_below n 64 b, not_below (128 + group) 128 ge, is_below (128 + group) 256 lt, again, is_below (n / 128) (2 ^ 56) fits, less, back, whole, not_below n 64 b) refl)
+    rw (
+      not_below n 64 b,
+      not_below (128 + group) 128 ge,
+      is_below (128 + group) 256 lt,
+      again,
+      is_below (n / 128) (2 ^ 56) fits,
+      less,
+      back,
+      whole,
+      not_below n 64 b,
+    ) refl)
     (cases_lt n 64)

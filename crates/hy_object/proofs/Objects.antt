@@ -12,45 +12,55 @@ use Rattle.hy_object.specs.declared.object.Object.{Object}
 use Rattle.hy_object.specs.declared.object.Fun.{Fun}
 use Rattle.hy_object.specs.declared.reading.Header.{Header}
 use Rattle.hy_object.specs.Numbers.{count_bytes}
-use Rattle.hy_object.specs.Operands.{Operand, Own, Outcome, FirstWord, FirstSlot, Base, Offset, Slot, Callee, Target, Trap, Size, Choice, Value, operands, instr_bytes}
+use Rattle.hy_object.specs.Operands.{Operand, Own, Outcome, FirstWord, FirstSlot, Base, Offset, Slot, Callee, Target, Trap, Size, Choice, Value, operands}
+use Rattle.hy_object.specs.Operands.{instr_bytes}
 use Rattle.hy_object.specs.Grammar.{IsCount, IsSpan, IsOperand, IsInstr, IsFun, IsMain, IsInGrammar, Ends, bounds_of}
 use Rattle.hy_object.specs.Bytes.{magic, version, span_bytes, fun_fields, fields}
 use Rattle.hy_object.specs.Allowed.{may_stand}
-use Rattle.hy_object.specs.Formats.{Number, Code, Format, Done, Then, many, one_span, one_instr, one_fun, largest, most, fun_format, object_format, bounds_in, fun_of}
+use Rattle.hy_object.specs.Formats.{Number, Code, Format, Done, Then, many, one_span, one_instr, one_fun, largest, most, fun_format, object_format}
+use Rattle.hy_object.specs.Formats.{bounds_in, fun_of}
 use Rattle.hy_object.proofs.Instructions.{HasBytes}
 use Rattle.hy_object.proofs.Fields.{Fits}
 use Rattle.hy_object.proofs.Paths.{Path, Lives}
 
 -- MANY PARTS
 
--- what is known of each of many parts, by how many are behind it, and which are before it
+-- what is known of each of many parts, by how many are after it, and which are before it
 abbrev pub Along : {X : Type 0} → (ℕ → List X → X → Type 0) → List X → List X → Type 0
 Along Fact before [] = Unit {0}
 Along Fact before (x ∷ xs) = Fact (length xs) before x × Along Fact (before ++ x ∷ []) xs
 
-lives_many : {X : Type 0} (one : ℕ → List X → (X → Format) → Format) → ((behind : ℕ) (before : List X) (next : X → Format) → ((x : X) → Lives (next x)) → Lives (one behind before next))
+lives_many : {X : Type 0} (one : ℕ → List X → (X → Format) → Format)
+    → ((behind : ℕ) (before : List X) (next : X → Format) → ((x : X) → Lives (next x)) → Lives (one behind before next))
     → (n : ℕ) (before : List X) (next : List X → Format) → ((xs : List X) → Lives (next xs)) → Lives (many one n before next)
 lives_many one each zero before next h = h before
 lives_many one each (suc n) before next h = each n before (λ x. many one n (before ++ x ∷ []) next) (λ x. lives_many one each n (before ++ x ∷ []) next h)
 
 pub many_path : {X : Type 0} (one : ℕ → List X → (X → Format) → Format) (spell : X → List (List ℕ)) (Fact : ℕ → List X → X → Type 0)
-    → ((behind : ℕ) (before : List X) (x : X) (next : X → Format) (fs : List (List ℕ)) (object : Object) → Fact behind before x → Path (next x) fs object → Path (one behind before next) (spell x ++ fs) object)
-    → (xs before : List X) (next : List X → Format) (fs : List (List ℕ)) (object : Object) → Along Fact before xs → Path (next (before ++ xs)) fs object → Path (many one (length xs) before next) (flat_map spell xs ++ fs) object
+    → ((behind : ℕ) (before : List X) (x : X) (next : X → Format) (fs : List (List ℕ)) (object : Object) → Fact behind before x → Path (next x) fs object
+    → Path (one behind before next) (spell x ++ fs) object)
+    → (xs before : List X) (next : List X → Format) (fs : List (List ℕ)) (object : Object) → Along Fact before xs → Path (next (before ++ xs)) fs object
+    → Path (many one (length xs) before next) (flat_map spell xs ++ fs) object
 many_path one spell Fact each [] before next fs object h p = subst (λ (l : List _). Path (next l) fs object) (append-nil before) p
 many_path {X = X} one spell Fact each (x ∷ xs) before next fs object h p =
-    let behind : Path (next ((before ++ x ∷ []) ++ xs)) fs object = subst (λ (l : List X). Path (next l) fs object) (sym (append_assoc before (x ∷ []) xs)) p in
+    let behind : Path (next ((before ++ x ∷ []) ++ xs)) fs object =
+    subst (λ (l : List X). Path (next l) fs object) (sym (append_assoc before (x ∷ []) xs)) p in
     let more = many_path one spell Fact each xs (before ++ x ∷ []) next fs object h.1 behind in
     let whole = each (length xs) before x (λ y. many one (length xs) (before ++ y ∷ []) next) (flat_map spell xs ++ fs) object h.0 more in
-    subst (λ (t : List (List ℕ)). Path (one (length xs) before (λ y. many one (length xs) (before ++ y ∷ []) next)) t object) (sym (append_assoc (spell x) (flat_map spell xs) fs)) whole
+    subst (λ (t : List (List ℕ)). Path (one (length xs) before (λ y. many one (length xs) (before ++ y ∷ []) next)) t object)
+    (sym (append_assoc (spell x) (flat_map spell xs) fs)) whole
 
 abbrev Part : {X : Type 0} → (X → List (List ℕ)) → (X → Type 0) → (X → Format) → List (List ℕ) → Object → Type 0
 Part {X = X} spell Fact next fs object = (x : X) × (rest : List (List ℕ)) × Fact x × (fs ≡ spell x ++ rest) × Path (next x) rest object
 
 many_walked : {X : Type 0} (one : ℕ → List X → (X → Format) → Format) (spell : X → List (List ℕ)) (Fact : ℕ → List X → X → Type 0)
-    → ((behind : ℕ) (before : List X) (next : X → Format) (fs : List (List ℕ)) (object : Object) → Path (one behind before next) fs object → Part spell (Fact behind before) next fs object)
+    → ((behind : ℕ) (before : List X) (next : X → Format) (fs : List (List ℕ)) (object : Object) → Path (one behind before next) fs object
+    → Part spell (Fact behind before) next fs object)
     → (n : ℕ) (before : List X) (next : List X → Format) (fs : List (List ℕ)) (object : Object) → Path (many one n before next) fs object
-    → (xs : List X) × (rest : List (List ℕ)) × (length xs ≡ n) × Along Fact before xs × (fs ≡ flat_map spell xs ++ rest) × Path (next (before ++ xs)) rest object
-many_walked {X = X} one spell Fact each zero before next fs object p = ([], fs, refl, tt, refl, subst (λ (l : List X). Path (next l) fs object) (sym (append-nil before)) p)
+    → (xs : List X) × (rest : List (List ℕ)) × (length xs ≡ n) × Along Fact before xs × (fs ≡ flat_map spell xs ++ rest)
+    × Path (next (before ++ xs)) rest object
+many_walked {X = X} one spell Fact each zero before next fs object p =
+    ([], fs, refl, tt, refl, subst (λ (l : List X). Path (next l) fs object) (sym (append-nil before)) p)
 many_walked {X = X} one spell Fact each (suc n) before next fs object p =
     let first = each n before (λ y. many one n (before ++ y ∷ []) next) fs object p in
     let more = many_walked one spell Fact each n (before ++ first.0 ∷ []) next first.1 object first.4 in (
@@ -70,11 +80,13 @@ SpanFact behind before span = IsSpan span
 abbrev span_fields : Span → List (List ℕ)
 span_fields span = span_bytes span ∷ []
 
-span_path : (behind : ℕ) (before : List Span) (span : Span) (next : Span → Format) (fs : List (List ℕ)) (object : Object) → SpanFact behind before span → Path (next span) fs object
+span_path : (behind : ℕ) (before : List Span) (span : Span) (next : Span → Format) (fs : List (List ℕ)) (object : Object) → SpanFact behind before span
+    → Path (next span) fs object
     → Path (one_span behind before next) (span_fields span ++ fs) object
 span_path behind before span next fs object h p = (span, fs, h, refl, p)
 
-span_walked : (behind : ℕ) (before : List Span) (next : Span → Format) (fs : List (List ℕ)) (object : Object) → Path (one_span behind before next) fs object → Part span_fields (SpanFact behind before) next fs object
+span_walked : (behind : ℕ) (before : List Span) (next : Span → Format) (fs : List (List ℕ)) (object : Object) → Path (one_span behind before next) fs object
+    → Part span_fields (SpanFact behind before) next fs object
 span_walked behind before next fs object p = (p.0, p.1, p.2, p.3, p.4)
 
 spans_along : (before spans : List Span) → AllByRecursion IsSpan spans → Along SpanFact before spans
@@ -93,11 +105,13 @@ InstrFact bounds behind before i = Fits (Code bounds behind) i
 abbrev instr_fields : Instr → List (List ℕ)
 instr_fields i = instr_bytes i ∷ []
 
-instr_path : (bounds : Bounds) (behind : ℕ) (before : List Instr) (i : Instr) (next : Instr → Format) (fs : List (List ℕ)) (object : Object) → InstrFact bounds behind before i → Path (next i) fs object
+instr_path : (bounds : Bounds) (behind : ℕ) (before : List Instr) (i : Instr) (next : Instr → Format) (fs : List (List ℕ)) (object : Object)
+    → InstrFact bounds behind before i → Path (next i) fs object
     → Path (one_instr bounds behind before next) (instr_fields i ++ fs) object
 instr_path bounds behind before i next fs object h p = (i, fs, h, refl, p)
 
-instr_walked : (bounds : Bounds) (behind : ℕ) (before : List Instr) (next : Instr → Format) (fs : List (List ℕ)) (object : Object) → Path (one_instr bounds behind before next) fs object
+instr_walked : (bounds : Bounds) (behind : ℕ) (before : List Instr) (next : Instr → Format) (fs : List (List ℕ)) (object : Object)
+    → Path (one_instr bounds behind before next) fs object
     → Part instr_fields (InstrFact bounds behind before) next fs object
 instr_walked bounds behind before next fs object p = (p.0, p.1, p.2, p.3, p.4)
 
@@ -157,7 +171,8 @@ some_code (i ∷ code) e = omega arith
 counts_of : (spans funs : ℕ) (fun : Fun) → IsCount spans → IsCount funs → IsFun spans funs fun → AreCounts (bounds_of spans funs fun)
 counts_of spans funs fun s f h = record { spans = s; funs = f; words = h.words; slots = h.slots; places = h.places }
 
-fun_path : (spans funs limit : ℕ) (fun : Fun) (next : Fun → Format) (fs : List (List ℕ)) (object : Object) → IsCount spans → IsCount funs → FunFact spans funs limit fun → Path (next fun) fs object
+fun_path : (spans funs limit : ℕ) (fun : Fun) (next : Fun → Format) (fs : List (List ℕ)) (object : Object) → IsCount spans → IsCount funs
+    → FunFact spans funs limit fun → Path (next fun) fs object
     → Path (fun_format spans funs limit next) (fun_fields fun ++ fs) object
 fun_path spans funs limit fun next fs object s f h p =
     let k = h.fits in
@@ -168,7 +183,8 @@ fun_path spans funs limit fun next fs object s f h p =
     let places : length fun.code < 2 ^ 32 = k.places in
     let some = some_code fun.code k.ends in
     let bounds = bounds_of spans funs fun in
-    let code = many_path (one_instr bounds) instr_fields (InstrFact bounds) (instr_path bounds) fun.code [] (λ code. next (record fun { code = code })) fs object (code_along bounds [] fun.code (counts_of spans funs fun s f k) k.instrs k.ends) p in
+    let code = many_path (one_instr bounds) instr_fields (InstrFact bounds) (instr_path bounds) fun.code [] (λ code. next (record fun { code = code })) fs
+    object (code_along bounds [] fun.code (counts_of spans funs fun s f k) k.instrs k.ends) p in
     let code_fields : flat_map instr_fields fun.code ≡ map instr_bytes fun.code = flat_map_single instr_bytes fun.code in (
       fun.accesses,
       _,
@@ -199,7 +215,8 @@ fun_path spans funs limit fun next fs object s f h p =
                 map instr_bytes fun.code ++ fs,
                 (some, omega arith, places),
                 refl,
-                subst (λ (t : List (List ℕ)). Path (many (one_instr bounds) (length fun.code) [] (λ code. next (record fun { code = code }))) (t ++ fs) object) code_fields code,
+                subst (λ (t : List (List ℕ)). Path (many (one_instr bounds) (length fun.code) [] (λ code. next (record fun { code = code }))) (t ++ fs)
+                    object) code_fields code,
               ),
             ),
           ),
@@ -207,16 +224,25 @@ fun_path spans funs limit fun next fs object s f h p =
       ),
     )
 
-fun_walked : (spans funs limit : ℕ) (next : Fun → Format) (fs : List (List ℕ)) (object : Object) → Path (fun_format spans funs limit next) fs object → Part fun_fields (FunFact spans funs limit) next fs object
-fun_walked spans funs limit next fs object (accesses, r1, f1, e1, (owned, r2, f2, e2, (result, r3, f3, e3, (words, r4, f4, e4, (slots, r5, f5, e5, (places, r6, f6, e6, p)))))) =
+fun_walked : (spans funs limit : ℕ) (next : Fun → Format) (fs : List (List ℕ)) (object : Object) → Path (fun_format spans funs limit next) fs object
+    → Part fun_fields (FunFact spans funs limit) next fs object
+fun_walked spans funs limit next fs object (
+  accesses,
+  r1,
+  f1,
+  e1,
+  (owned, r2, f2, e2, (result, r3, f3, e3, (words, r4, f4, e4, (slots, r5, f5, e5, (places, r6, f6, e6, p))))),
+) =
     let header : Header = record { accesses = accesses; owned = owned; result = result; words = words; slots = slots; places = places } in
     let bounds = bounds_in spans funs header in
-    let walked = many_walked (one_instr bounds) instr_fields (InstrFact bounds) (instr_walked bounds) places [] (λ code. next (fun_of header code)) r6 object p in
+    let walked = many_walked (one_instr bounds) instr_fields (InstrFact bounds) (instr_walked bounds) places [] (λ code. next (fun_of header code)) r6
+    object p in
     let code = walked.0 in
     let fun = fun_of header code in
     let size : length code ≡ places = walked.2 in
     let instrs : AllByRecursion (IsInstr (bounds_of spans funs fun)) code =
-    subst (λ (n : ℕ). AllByRecursion (IsInstr (record { spans = spans; funs = funs; result = result; words = words; slots = slots; places = n })) code) (sym size) (code_all bounds [] code walked.3) in
+    subst (λ (n : ℕ). AllByRecursion (IsInstr (record { spans = spans; funs = funs; result = result; words = words; slots = slots; places = n })) code)
+    (sym size) (code_all bounds [] code walked.3) in
     let some : 1 ≤ length code = omega (arith, f6.0) in
     let counted : count_bytes places ≡ count_bytes (length code) = ap count_bytes (sym size) in
     let spelled_so : r6 ≡ map instr_bytes code ++ walked.1 = walked.4 ∙ ap (λ (t : List (List ℕ)). t ++ walked.1) (flat_map_single instr_bytes code) in (
@@ -237,8 +263,11 @@ fun_walked spans funs limit next fs object (accesses, r1, f1, e1, (owned, r2, f2
         owned = f2.1;
         result = f3.1;
       },
-      e1 ∙ ap (λ (t : List (List ℕ)). count_bytes accesses ∷ t) (e2 ∙ ap (λ (t : List (List ℕ)). count_bytes owned ∷ t) (e3 ∙ ap (λ (t : List (List ℕ)). count_bytes result ∷ t) (e4 ∙ ap (λ (t : List (List ℕ)). count_bytes words ∷ t)
-          (e5 ∙ ap (λ (t : List (List ℕ)). count_bytes slots ∷ t) (e6 ∙ ap (λ (t : List (List ℕ)). count_bytes places ∷ t) spelled_so ∙ ap (λ (c : List ℕ). c ∷ (map instr_bytes code ++ walked.1)) counted))))),
+      e1 ∙ ap (λ (t : List (List ℕ)). count_bytes accesses ∷ t) (e2
+          ∙ ap (λ (t : List (List ℕ)). count_bytes owned ∷ t) (e3
+          ∙ ap (λ (t : List (List ℕ)). count_bytes result ∷ t) (e4 ∙ ap (λ (t : List (List ℕ)). count_bytes words ∷ t)
+          (e5 ∙ ap (λ (t : List (List ℕ)). count_bytes slots ∷ t) (e6 ∙ ap (λ (t : List (List ℕ)). count_bytes places ∷ t) spelled_so
+          ∙ ap (λ (c : List ℕ). c ∷ (map instr_bytes code ++ walked.1)) counted))))),
       walked.5,
     )
 
@@ -258,10 +287,13 @@ later_along spans funs before (fun ∷ all) m h =
     let slots : fun.slots < 2 ^ 32 = k.slots in
     let result : fun.result < 2 ^ 32 = k.result in
     let accesses : fun.accesses ≤ fun.slots = k.accesses in
-    let owned : fun.owned ≤ fun.words = k.owned in
-    (record { fits = k; accesses = omega (arith, m); owned = omega (arith, m); result = omega (arith, m) }, later_along spans funs (before ++ fun ∷ []) all (most_later before fun) h.1)
+    let owned : fun.owned ≤ fun.words = k.owned in (
+      record { fits = k; accesses = omega (arith, m); owned = omega (arith, m); result = omega (arith, m) },
+      later_along spans funs (before ++ fun ∷ []) all (most_later before fun) h.1,
+    )
 
-funs_along : (spans funs : ℕ) (all : List Fun) → AllByRecursion (IsFun spans funs) all → IsSomeAnd (slice_get all 0) IsMain → Along (FunsFact spans funs) [] all
+funs_along : (spans funs : ℕ) (all : List Fun) → AllByRecursion (IsFun spans funs) all
+    → IsSomeAnd (slice_get all 0) IsMain → Along (FunsFact spans funs) [] all
 funs_along spans funs [] h m = absurd m
 funs_along spans funs (fun ∷ all) h m =
     let accesses : fun.accesses ≡ 0 = m.accesses in
@@ -287,7 +319,7 @@ some_funs : (all : List Fun) → IsSomeAnd (slice_get all 0) IsMain → 1 ≤ le
 some_funs [] m = absurd m
 some_funs (fun ∷ all) m = omega arith
 
--- the format behind the spans
+-- the format after the spans
 abbrev funs_behind : ℕ → List Span → Format
 funs_behind spans ranges = Then (Number 1 largest) (λ funs. many (one_fun spans funs) funs [] (λ all. Done (record { spans = ranges; funs = all })))
 
@@ -299,16 +331,21 @@ object_path object h =
     let span_count : spans < 2 ^ 32 = h.span_count in
     let fun_count : funs < 2 ^ 32 = h.fun_count in
     let end : Path (Done object) [] object = (refl, refl) in
-    let fun_part = many_path (one_fun spans funs) fun_fields (FunsFact spans funs) (λ behind before fun next fs o. fun_path spans funs (most before) fun next fs o span_count fun_count)
+    let fun_part =
+    many_path (one_fun spans funs) fun_fields (FunsFact spans funs)
+    (λ behind before fun next fs o. fun_path spans funs (most before) fun next fs o span_count fun_count)
     object.funs [] (λ all. Done (record { spans = object.spans; funs = all })) [] object (funs_along spans funs object.funs h.funs h.main) end in
     let counted : Path (funs_behind spans object.spans) (count_bytes funs ∷ flat_map fun_fields object.funs) object = (
       funs,
       flat_map fun_fields object.funs,
       (some_funs object.funs h.main, omega arith, fun_count),
       refl,
-      subst (λ (t : List (List ℕ)). Path (many (one_fun spans funs) funs [] (λ all. Done (record { spans = object.spans; funs = all }))) t object) (append-nil (flat_map fun_fields object.funs)) fun_part,
+      subst (λ (t : List (List ℕ)). Path (many (one_fun spans funs) funs [] (λ all. Done (record { spans = object.spans; funs = all }))) t object)
+          (append-nil (flat_map fun_fields object.funs)) fun_part,
     ) in
-    let span_part = many_path one_span span_fields SpanFact span_path object.spans [] (funs_behind spans) (count_bytes funs ∷ flat_map fun_fields object.funs) object (spans_along [] object.spans h.spans) counted in (
+    let span_part =
+    many_path one_span span_fields SpanFact span_path object.spans [] (funs_behind spans) (count_bytes funs ∷ flat_map fun_fields object.funs) object
+    (spans_along [] object.spans h.spans) counted in (
       tt,
       _,
       tt,
@@ -323,7 +360,8 @@ object_path object h =
           map span_bytes object.spans ++ (count_bytes funs ∷ flat_map fun_fields object.funs),
           (omega arith, omega arith, span_count),
           refl,
-          subst (λ (t : List (List ℕ)). Path (many one_span spans [] (funs_behind spans)) (t ++ (count_bytes funs ∷ flat_map fun_fields object.funs)) object) (flat_map_single span_bytes object.spans) span_part,
+          subst (λ (t : List (List ℕ)). Path (many one_span spans [] (funs_behind spans)) (t ++ (count_bytes funs ∷ flat_map fun_fields object.funs))
+              object) (flat_map_single span_bytes object.spans) span_part,
         ),
       ),
     )
@@ -334,7 +372,8 @@ object_walked fs object (t, r1, f1, e1, (u, r2, f2, e2, (spans, r3, f3, e3, p)))
     let ranges = many_walked one_span span_fields SpanFact span_walked spans [] (funs_behind spans) r3 object p in
     let counted = ranges.5 in
     let funs = counted.0 in
-    let all = many_walked (one_fun spans funs) fun_fields (FunsFact spans funs) (λ behind before next fs o. fun_walked spans funs (most before) next fs o) funs [] (λ all. Done (record { spans = ranges.0; funs = all })) counted.1 object counted.4 in
+    let all = many_walked (one_fun spans funs) fun_fields (FunsFact spans funs) (λ behind before next fs o. fun_walked spans funs (most before) next fs o)
+    funs [] (λ all. Done (record { spans = ranges.0; funs = all })) counted.1 object counted.4 in
     let end = all.5 in
     let made : Object = record { spans = ranges.0; funs = all.0 } in
     let some : 1 ≤ length all.0 = omega (arith, all.2, counted.2.0) in
@@ -342,16 +381,20 @@ object_walked fs object (t, r1, f1, e1, (u, r2, f2, e2, (spans, r3, f3, e3, p)))
       span_count = subst (λ (n : ℕ). n < 2 ^ 32) (sym ranges.2) f3.2;
       spans = spans_all [] ranges.0 ranges.3;
       fun_count = subst (λ (n : ℕ). n < 2 ^ 32) (sym all.2) counted.2.2;
-      funs = subst (λ (n : ℕ). AllByRecursion (IsFun n (length all.0)) all.0) (sym ranges.2) (subst (λ (n : ℕ). AllByRecursion (IsFun spans n) all.0) (sym all.2) (funs_all spans funs [] all.0 all.3));
+      funs = subst (λ (n : ℕ). AllByRecursion (IsFun n (length all.0)) all.0) (sym ranges.2)
+          (subst (λ (n : ℕ). AllByRecursion (IsFun spans n) all.0) (sym all.2) (funs_all spans funs [] all.0 all.3));
       main = funs_main spans funs all.0 some all.3;
     } in
-    let last : counted.1 ≡ flat_map fun_fields all.0 = all.4 ∙ ap (λ (t : List (List ℕ)). flat_map fun_fields all.0 ++ t) end.0 ∙ append-nil (flat_map fun_fields all.0) in
+    let last : counted.1 ≡ flat_map fun_fields all.0 = all.4 ∙ ap (λ (t : List (List ℕ)). flat_map fun_fields all.0 ++ t) end.0
+    ∙ append-nil (flat_map fun_fields all.0) in
     let third : ranges.1 ≡ count_bytes (length all.0) ∷ flat_map fun_fields all.0 =
     counted.3 ∙ ap (λ (t : List (List ℕ)). count_bytes funs ∷ t) last ∙ ap (λ (n : ℕ). count_bytes n ∷ flat_map fun_fields all.0) (sym all.2) in
     let second : r3 ≡ map span_bytes ranges.0 ++ (count_bytes (length all.0) ∷ flat_map fun_fields all.0) =
-    ranges.4 ∙ ap (λ (t : List (List ℕ)). t ++ ranges.1) (flat_map_single span_bytes ranges.0) ∙ ap (λ (t : List (List ℕ)). map span_bytes ranges.0 ++ t) third in
+    ranges.4 ∙ ap (λ (t : List (List ℕ)). t ++ ranges.1) (flat_map_single span_bytes ranges.0)
+    ∙ ap (λ (t : List (List ℕ)). map span_bytes ranges.0 ++ t) third in
     let first : r2 ≡ count_bytes (length ranges.0) ∷ (map span_bytes ranges.0 ++ (count_bytes (length all.0) ∷ flat_map fun_fields all.0)) =
-    e3 ∙ ap (λ (t : List (List ℕ)). count_bytes spans ∷ t) second ∙ ap (λ (n : ℕ). count_bytes n ∷ (map span_bytes ranges.0 ++ (count_bytes (length all.0) ∷ flat_map fun_fields all.0))) (sym ranges.2) in
+    e3 ∙ ap (λ (t : List (List ℕ)). count_bytes spans ∷ t) second
+    ∙ ap (λ (n : ℕ). count_bytes n ∷ (map span_bytes ranges.0 ++ (count_bytes (length all.0) ∷ flat_map fun_fields all.0))) (sym ranges.2) in
     let whole : fs ≡ fields made = e1 ∙ ap (λ (t : List (List ℕ)). magic ∷ t) (e2 ∙ ap (λ (t : List (List ℕ)). version ∷ t) first) in
     subst (λ (o : Object). IsInGrammar o × (fs ≡ fields o)) end.1 (in_grammar, whole)
 
@@ -367,7 +410,8 @@ goes_nowhere : (behind : ℕ) → IsTrue (may_stand behind (instr.Jump 0))
 goes_nowhere zero = refl
 goes_nowhere (suc behind) = refl
 
-lives_instr : (bounds : Bounds) → 1 ≤ bounds.places → (behind : ℕ) (before : List Instr) (next : Instr → Format) → ((i : Instr) → Lives (next i)) → Lives (one_instr bounds behind before next)
+lives_instr : (bounds : Bounds) → 1 ≤ bounds.places → (behind : ℕ) (before : List Instr) (next : Instr → Format) → ((i : Instr) → Lives (next i))
+    → Lives (one_instr bounds behind before next)
 lives_instr bounds some behind before next h = ((instr.Jump 0, ((omega arith, tt), goes_nowhere behind, (omega arith, tt))), λ i fits. h i)
 
 small_count : (n : ℕ) → n < 2 ^ 32 → n ≤ largest
@@ -389,7 +433,8 @@ lives_fun spans funs limit next lt h =
                 least 1 largest (omega arith) (omega arith),
                 λ places p.
                     let header : Header = record { accesses = accesses; owned = owned; result = result; words = words; slots = slots; places = places } in
-                    lives_many (one_instr (bounds_in spans funs header)) (lives_instr (bounds_in spans funs header) p.0) places [] (λ code. next (fun_of header code)) (λ code. h (fun_of header code)),
+                    lives_many (one_instr (bounds_in spans funs header)) (lives_instr (bounds_in spans funs header) p.0) places []
+                    (λ code. next (fun_of header code)) (λ code. h (fun_of header code)),
               ),
             ),
           ),
@@ -412,7 +457,8 @@ object_lives = (
           lives_many one_span lives_span spans [] (funs_behind spans) (λ ranges. (
             least 1 largest (omega arith) (omega arith),
             λ funs f.
-                lives_many (one_fun spans funs) (λ behind before next. lives_fun spans funs (most before) next (most_counts before)) funs [] (λ all. Done (record { spans = ranges; funs = all })) (λ all. tt),
+                lives_many (one_fun spans funs) (λ behind before next. lives_fun spans funs (most before) next (most_counts before)) funs []
+                (λ all. Done (record { spans = ranges; funs = all })) (λ all. tt),
           )),
     ),
   ),

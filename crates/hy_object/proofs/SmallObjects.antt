@@ -8,11 +8,45 @@ use Rattle.hy_object.specs.Runs.{IsSafe, frees}
 use Rattle.hy_object.specs.States.{Ended, Stuck}
 use Rattle.hy_object.specs.Steps.{step, steps, begin}
 use Rattle.hy_object.proofs.OneEnd.{ended_stays}
-use Rattle.hy_object.specs.SmallObjects.{TellsSafeAndBalanced, returning, balanced_run, AllAnswered, on_words, on_input, on_turns, on_calls, on_accesses, on_subscripts, on_arrays, on_programs}
+use Rattle.hy_object.specs.SmallObjects.{TellsSafeAndBalanced, returning, balanced_run, AllAnswered, on_words, on_input, on_turns, on_calls, on_accesses}
+use Rattle.hy_object.specs.SmallObjects.{on_subscripts, on_arrays, on_programs}
 
 pub words : AllAnswered on_words
 unfolding digits
-words = (refl, (refl, (refl, (refl, (refl, (refl, (refl, (refl, (refl, (refl, (refl, (refl, (refl, (refl, (refl, (refl, (refl, (refl, (refl, (refl, (refl, (refl, (refl, (refl, (refl, (refl, (refl, tt)))))))))))))))))))))))))))
+words = (
+  refl,
+  (
+    refl,
+    (
+      refl,
+      (
+        refl,
+        (
+          refl,
+          (
+            refl,
+            (
+              refl,
+              (
+                refl,
+                (
+                  refl,
+                  (
+                    refl,
+                    (
+                      refl,
+                      (refl, (refl, (refl, (refl, (refl, (refl, (refl, (refl, (refl, (refl, (refl, (refl, (refl, (refl, (refl, (refl, tt)))))))))))))))),
+                    ),
+                  ),
+                ),
+              ),
+            ),
+          ),
+        ),
+      ),
+    ),
+  ),
+)
 
 pub input : AllAnswered on_input
 unfolding digits
@@ -36,7 +70,46 @@ subscripts = (refl, (refl, (refl, (refl, (refl, (refl, (refl, (refl, (refl, (ref
 
 pub arrays : AllAnswered on_arrays
 unfolding digits
-arrays = (refl, (refl, (refl, (refl, (refl, (refl, (refl, (refl, (refl, (refl, (refl, (refl, (refl, (refl, (refl, (refl, (refl, (refl, (refl, (refl, (refl, (refl, (refl, (refl, (refl, (refl, (refl, (refl, (refl, tt)))))))))))))))))))))))))))))
+arrays = (
+  refl,
+  (
+    refl,
+    (
+      refl,
+      (
+        refl,
+        (
+          refl,
+          (
+            refl,
+            (
+              refl,
+              (
+                refl,
+                (
+                  refl,
+                  (
+                    refl,
+                    (
+                      refl,
+                      (
+                        refl,
+                        (
+                          refl,
+                          (refl, (refl, (refl, (refl, (refl, (refl, (refl, (refl, (refl, (refl, (refl, (refl, (refl, (refl, (refl, (refl, tt)))))))))))))))),
+                        ),
+                      ),
+                    ),
+                  ),
+                ),
+              ),
+            ),
+          ),
+        ),
+      ),
+    ),
+  ),
+)
 
 pub programs : AllAnswered on_programs
 unfolding digits

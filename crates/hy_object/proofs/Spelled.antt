@@ -35,21 +35,26 @@ object_run bytes object s = ap (run object_format) s.1 ∙ along object_format (
 -- A RUN, AND PLACES
 
 pub left_within : (bytes : List ℕ) (left : ℕ) → run object_format bytes ≡ Err left → left ≤ length bytes
-left_within bytes left e = let bad = is_bad object_format bytes left object_lives e in omega (arith, ap length bad.begins, length-append (concat bad.done) bad.rest, bad.left_is)
+left_within bytes left e = let bad = is_bad object_format bytes left object_lives e in
+    omega (arith, ap length bad.begins, length-append (concat bad.done) bad.rest, bad.left_is)
 
 begins_here : (bytes : List ℕ) (left : ℕ) → IsBad object_format bytes left → Begins bytes (length bytes - left)
 begins_here bytes left bad =
     let o = object_walked (bad.done ++ bad.more) bad.object bad.path in
     let size : length (concat bad.done) ≡ length bytes - left = omega (arith, ap length bad.begins, length-append (concat bad.done) bad.rest, bad.left_is) in
-    let front : take (length bytes - left) bytes ≡ concat bad.done = ap (take (length bytes - left)) bad.begins ∙ take_at (concat bad.done) bad.rest (length bytes - left) size in
-    let first : take (length bad.done) (fields bad.object) ≡ bad.done = ap (take (length bad.done)) (sym o.1) ∙ take_at bad.done bad.more (length bad.done) refl in
+    let front : take (length bytes - left) bytes ≡ concat bad.done = ap (take (length bytes - left)) bad.begins
+    ∙ take_at (concat bad.done) bad.rest (length bytes - left) size in
+    let first : take (length bad.done) (fields bad.object) ≡ bad.done = ap (take (length bad.done)) (sym o.1)
+    ∙ take_at bad.done bad.more (length bad.done) refl in
     record { object = bad.object; in_grammar = o.0; count = length bad.done; within = omega arith; same = front ∙ ap concat (sym first) }
 
 no_longer : (bytes : List ℕ) (left : ℕ) → IsBad object_format bytes left → left ≤ length bytes → (n : ℕ) → Begins bytes n → n ≤ length bytes - left
 no_longer bytes left bad fits n b =
     let parts : take b.count (fields b.object) ++ drop b.count (fields b.object) ≡ fields b.object = take-append-drop b.count (fields b.object) in
-    let path : Path object_format (take b.count (fields b.object) ++ drop b.count (fields b.object)) b.object = subst (λ (fs : List (List ℕ)). Path object_format fs b.object) (sym parts) (object_path b.object b.in_grammar) in
-    let whole : bytes ≡ concat (take b.count (fields b.object)) ++ drop n bytes = sym (take-append-drop n bytes) ∙ ap (λ (t : List ℕ). t ++ drop n bytes) b.same in
+    let path : Path object_format (take b.count (fields b.object) ++ drop b.count (fields b.object)) b.object =
+    subst (λ (fs : List (List ℕ)). Path object_format fs b.object) (sym parts) (object_path b.object b.in_grammar) in
+    let whole : bytes ≡ concat (take b.count (fields b.object)) ++ drop n bytes = sym (take-append-drop n bytes)
+    ∙ ap (λ (t : List ℕ). t ++ drop n bytes) b.same in
     let longest = bad.longest (take b.count (fields b.object)) (drop b.count (fields b.object)) b.object (drop n bytes) path whole in
     let within : n ≤ length bytes = b.within in
     omega (arith, longest, length-drop n bytes)
@@ -71,7 +76,8 @@ one_spelling one other g h e = ok_is one other (sym (object_run (bytes_of one) o
 pub one_place : OnePlace
 one_place bytes one other b c = let le = c.longest one b.begins in let ge = b.longest other c.begins in omega arith
 
-run_ends : (bytes : List ℕ) (ended : Result Object ℕ) → run object_format bytes ≡ ended → ((object : Object) × Spells bytes object) ⊎ ((place : ℕ) × IsBadAt bytes place)
+run_ends : (bytes : List ℕ) (ended : Result Object ℕ) → run object_format bytes ≡ ended → ((object : Object) × Spells bytes object)
+    ⊎ ((place : ℕ) × IsBadAt bytes place)
 run_ends bytes (Ok object) e = inl (object, run_object bytes object e)
 run_ends bytes (Err left) e = inr (length bytes - left, run_bad bytes left e)
 

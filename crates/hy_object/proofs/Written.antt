@@ -22,7 +22,8 @@ adds_more a b c (p, e) (q, f) = (p ++ q, f ∙ ap (λ list. list ++ q) e ∙ app
 steps_add_output : (object : Object) (j : ℕ) (s : State) → Adds s.output (steps object j s).output
 steps_add_output object zero s = ([], sym (append-nil s.output))
 steps_add_output object (suc j) s =
-    adds_more s.output (step object s).output (steps object j (step object s)).output (step_adds object s s.stop refl) (steps_add_output object j (step object s))
+    adds_more s.output (step object s).output (steps object j (step object s)).output (step_adds object s s.stop refl)
+    (steps_add_output object j (step object s))
 
 -- a front of a piece is a beginning of what begins with the piece
 front_of : (old piece rest all : List ℕ) (front : ℕ) → all ≡ (old ++ piece) ++ rest → (m : ℕ) × (old ++ take front piece ≡ take m all)

@@ -25,7 +25,7 @@ may_be b (Value v) = fits v
 abbrev pub allows : Bounds → Instr → Bool
 allows b i = list_all (may_be b) (operands i)
 
--- it may be the instruction with so many behind it
+-- it may be the instruction with so many after it
 abbrev pub may_stand : ℕ → Instr → Bool
 may_stand zero i = is_end i
 may_stand (suc behind) i = true

@@ -1,6 +1,7 @@
 -- The format as a tree of fields to come, each with what may follow it, and reading along it. What stands in a file is so
 -- decided at each field.
-use Rattle.std.specs.Prelude.{◌≡◌, ◌+◌, ◌-◌, ◌^◌, ℕ, zero, suc, List, [], ◌∷◌, ◌++◌, length, ◌&&◌, nat_lt, nat_le, nat_eq, if◌then◌else◌, Option, Some, None, Result, Ok, Err}
+use Rattle.std.specs.Prelude.{◌≡◌, ◌+◌, ◌-◌, ◌^◌, ℕ, zero, suc, List, [], ◌∷◌, ◌++◌, length, ◌&&◌, nat_lt, nat_le, nat_eq, if◌then◌else◌, Option, Some}
+use Rattle.std.specs.Prelude.{None, Result, Ok, Err}
 use Rattle.std.specs.Option.{option_and_then}
 use Rattle.hy_base.specs.declared.position.Span.{Span}
 use Rattle.hy_object.specs.declared.bounds.Bounds.{Bounds}
@@ -25,7 +26,7 @@ pub data Kind : Type 0 where
   Number : (low : ℕ) → (high : ℕ) → Kind
   -- a span
   Range : Kind
-  -- an instruction, of a function with these bounds, with so many behind it
+  -- an instruction, of a function with these bounds, with so many after it
   Code : Bounds → (behind : ℕ) → Kind
 
 abbrev pub Held : Kind → Type 0
@@ -53,7 +54,9 @@ abbrev pub span_from : ℕ → ℕ → Span
 span_from from size = record { from = from; to = from + size }
 
 abbrev pub read_span : List ℕ → Option (Span × List ℕ)
-read_span bytes = option_and_then (λ from. option_and_then (λ size. if nat_lt (from.0 + size.0) (2 ^ 32) then Some (span_from from.0 size.0, size.1) else None) (read_count from.1)) (read_count bytes)
+read_span bytes =
+    option_and_then (λ from. option_and_then (λ size. if nat_lt (from.0 + size.0) (2 ^ 32) then Some (span_from from.0 size.0, size.1) else None)
+    (read_count from.1)) (read_count bytes)
 
 abbrev pub read_code : Bounds → ℕ → List ℕ → Option (Instr × List ℕ)
 read_code bounds behind bytes = option_and_then (λ x. if allows bounds x.0 && may_stand behind x.0 then Some x else None) (read_instr bytes)
@@ -89,7 +92,7 @@ largest = 4294967295
 abbrev pub number : ℕ → ℕ → (ℕ → Format) → Format
 number low high next = Then (Number low high) next
 
--- So many of one part, behind these. A part is told how many are behind it, and which are before it.
+-- So many of one part, after these. A part knows how many are after it, and which are before it.
 abbrev pub many : {X : Type 0} → (ℕ → List X → (X → Format) → Format) → ℕ → List X → (List X → Format) → Format
 many one zero before next = next before
 many one (suc n) before next = one n before (λ x. many one n (before ++ x ∷ []) next)
@@ -102,19 +105,28 @@ one_instr bounds behind before next = Then (Code bounds behind) next
 
 abbrev pub header_format : ℕ → (Header → Format) → Format
 header_format most next =
-    number 0 most (λ accesses. number 0 most (λ owned. number 0 most (λ result. number owned largest (λ words. number accesses largest (λ slots. number 1 largest (λ places.
+    number 0 most (λ accesses. number 0 most (λ owned. number 0 most (λ result.
+    number owned largest (λ words. number accesses largest (λ slots. number 1 largest (λ places.
     next (record { accesses = accesses; owned = owned; result = result; words = words; slots = slots; places = places })))))))
 
 abbrev pub bounds_in : ℕ → ℕ → Header → Bounds
 bounds_in spans funs header = record { spans = spans; funs = funs; result = header.result; words = header.words; slots = header.slots; places = header.places }
 
 abbrev pub fun_of : Header → List Instr → Fun
-fun_of header code = record { accesses = header.accesses; owned = header.owned; result = header.result; words = header.words; slots = header.slots; code = code }
+fun_of header code = record {
+  accesses = header.accesses;
+  owned = header.owned;
+  result = header.result;
+  words = header.words;
+  slots = header.slots;
+  code = code;
+}
 
 abbrev pub fun_format : ℕ → ℕ → ℕ → (Fun → Format) → Format
-fun_format spans funs most next = header_format most (λ header. many (one_instr (bounds_in spans funs header)) header.places [] (λ code. next (fun_of header code)))
+fun_format spans funs most next =
+    header_format most (λ header. many (one_instr (bounds_in spans funs header)) header.places [] (λ code. next (fun_of header code)))
 
--- how many accesses, owned words and result words a function may have behind these functions: none where it is `main`
+-- how many accesses, owned words and result words a function may have after these functions: none where it is `main`
 abbrev pub most : List Fun → ℕ
 most [] = 0
 most (fun ∷ funs) = largest
@@ -124,7 +136,9 @@ one_fun spans funs behind before next = fun_format spans funs (most before) next
 
 abbrev pub object_format : Format
 object_format =
-    Then (Mark magic) (λ _. Then (Mark version) (λ _. number 0 largest (λ spans. many one_span spans [] (λ ranges. number 1 largest (λ funs. many (one_fun spans funs) funs [] (λ all.
+    Then (Mark magic) (λ _. Then (Mark version) (λ _.
+    number 0 largest (λ spans. many one_span spans [] (λ ranges.
+    number 1 largest (λ funs. many (one_fun spans funs) funs [] (λ all.
     Done (record { spans = ranges; funs = all })))))))
 
 -- READING
@@ -134,7 +148,7 @@ abbrev pub Stops : {X : Type 0} → ((X → Format) → Format) → List ℕ →
 Stops {X = X} part bytes (stop.At left) = (next : X → Format) → run (part next) bytes ≡ Err left
 Stops part bytes stop.NoMemory = Unit {0}
 
--- A function that reads a part answers so: whatever follows the part, a run goes on behind it with what was read, or stops.
+-- A function that reads a part answers so: whatever follows the part, a run goes on after it with what was read, or stops.
 abbrev pub Reads : {X Y : Type 0} → (X → Y) → (X → List ℕ) → ((Y → Format) → Format) → List ℕ → Result X Stop → Type 0
 Reads {Y = Y} view rest part bytes (Ok x) = (next : Y → Format) → run (part next) bytes ≡ run (next (view x)) (rest x)
 Reads view rest part bytes (Err e) = Stops part bytes e

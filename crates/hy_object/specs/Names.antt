@@ -26,9 +26,11 @@ pub record InBlock (blocks : ℕ) (words : ℕ → ℕ) (range : Range) : Type 0
 pub record NamesAreCounted : Type 0 where
   -- Where a range is stored over, the names that stood there are gone, and those that are stored have come.
   pub stored : (n : ℕ) (words : ℕ → ℕ) (cells : ℕ → Cells) (range : Range) (new : Cells) (name : ℕ) → InBlock n words range
-      → times n words (with_cells cells range new) name + times_in range.words (window cells range) name ≡ times n words cells name + times_in range.words new name
+      → times n words (with_cells cells range new) name + times_in range.words (window cells range) name ≡ times n words cells name + times_in range.words
+      new name
   -- Where cells move to another range, the names that stood there are gone.
-  pub moved_over : (n : ℕ) (words : ℕ → ℕ) (cells : ℕ → Cells) (from to : Range) (name : ℕ) → InBlock n words from → InBlock n words to → to.words ≡ from.words → meets to from ≡ false
+  pub moved_over : (n : ℕ) (words : ℕ → ℕ) (cells : ℕ → Cells) (from to : Range) (name : ℕ) → InBlock n words from → InBlock n words to
+      → to.words ≡ from.words → meets to from ≡ false
       → times n words (moved cells from to) name + times_in to.words (window cells to) name ≡ times n words cells name
   -- A new block brings the names that it begins with.
   pub taken : (n : ℕ) (words : ℕ → ℕ) (cells : ℕ → Cells) (size : ℕ) (first : Cells) (name : ℕ)

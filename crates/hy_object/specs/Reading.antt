@@ -1,5 +1,6 @@
--- Numbers and instructions, read from the front of some bytes: with what is behind them, or nothing where none stands there.
-use Rattle.std.specs.Prelude.{◌≡◌, ℕ, zero, suc, ◌+◌, ◌-◌, ◌*◌, ◌^◌, ℤ, pos, negsuc, List, [], ◌∷◌, ◌++◌, Option, Some, None, Bool, true, false, nat_lt, nat_eq, if◌then◌else◌, slice_get, get_or}
+-- Numbers and instructions, read from the front of some bytes: with what follows them, or nothing where none stands there.
+use Rattle.std.specs.Prelude.{◌≡◌, ℕ, zero, suc, ◌+◌, ◌-◌, ◌*◌, ◌^◌, ℤ, pos, negsuc, List, [], ◌∷◌, ◌++◌, Option, Some, None, Bool, true, false, nat_lt}
+use Rattle.std.specs.Prelude.{nat_eq, if◌then◌else◌, slice_get, get_or}
 use Rattle.std.specs.Option.{option_and_then}
 use Rattle.hy_object.specs.declared.instr.Way.{Way}
 use Rattle.hy_object.specs.declared.instr.Way.TheVariants as way
@@ -51,7 +52,8 @@ last_group group = if nat_lt group 64 then record { negative = false; number = g
 abbrev pub with_group : ℕ → Signed → Option Signed
 with_group group high =
     if nat_lt high.number (2 ^ 56)
-    then (if nat_lt (128 * high.number + low_group high.negative group) 64 then None else Some (record { negative = high.negative; number = 128 * high.number + low_group high.negative group }))
+    then (if nat_lt (128 * high.number + low_group high.negative group) 64 then None else Some
+    (record { negative = high.negative; number = 128 * high.number + low_group high.negative group }))
     else None
 
 abbrev pub signed_joined : ℕ → Option (Signed × List ℕ) → Option (Signed × List ℕ)
@@ -61,7 +63,8 @@ signed_joined group (Some high) = option_and_then (λ s. Some (s, high.1)) (with
 unfoldable pub read_signed : ℕ → List ℕ → Option (Signed × List ℕ)
 read_signed zero bytes = None
 read_signed (suc k) [] = None
-read_signed (suc k) (b ∷ bytes) = if nat_lt b 128 then Some (last_group b, bytes) else (if nat_lt b 256 then signed_joined (b - 128) (read_signed k bytes) else None)
+read_signed (suc k) (b ∷ bytes) =
+    if nat_lt b 128 then Some (last_group b, bytes) else (if nat_lt b 256 then signed_joined (b - 128) (read_signed k bytes) else None)
 
 abbrev pub value_by_sign : Bool → ℕ → ℤ
 value_by_sign false n = pos n
@@ -70,7 +73,7 @@ value_by_sign true n = negsuc n
 abbrev pub read_value : List ℕ → Option (ℤ × List ℕ)
 read_value bytes = option_and_then (λ v. Some (value_by_sign v.0.negative v.0.number, v.1)) (read_signed 10 bytes)
 
--- so many counts, behind those that were read
+-- so many counts, after those that were read
 unfoldable pub read_row : ℕ → List ℕ → List ℕ → Option (List ℕ × List ℕ)
 read_row zero row bytes = Some (row, bytes)
 read_row (suc n) row bytes = option_and_then (λ x. read_row n (row ++ x.0 ∷ []) x.1) (read_count bytes)
@@ -131,11 +134,14 @@ four_of four.Push row = instr.Push (record { base = at row 0; offset = at row 1 
 abbrev pub five_of : Five → List ℕ → Option Instr
 five_of five.Copy row = Some (instr.Copy (record { base = at row 0; offset = at row 1 }) (record { base = at row 2; offset = at row 3 }) (at row 4))
 five_of five.Move row = Some (instr.Move (record { base = at row 0; offset = at row 1 }) (record { base = at row 2; offset = at row 3 }) (at row 4))
-five_of five.Lend row = option_and_then (λ way. Some (instr.Lend (at row 0) (record { base = at row 1; offset = at row 2 }) (at row 3) way)) (way_at (at row 4))
+five_of five.Lend row = option_and_then (λ way. Some (instr.Lend (at row 0) (record { base = at row 1; offset = at row 2 }) (at row 3) way))
+    (way_at (at row 4))
 five_of five.Pop row = Some (instr.Pop (record { base = at row 0; offset = at row 1 }) (at row 2) (at row 3) (at row 4))
 
 abbrev pub seven_of : Seven → List ℕ → Option Instr
-seven_of seven.Elem row = option_and_then (λ way. Some (instr.Elem (at row 0) (record { base = at row 1; offset = at row 2 }) (at row 3) (at row 4) way (at row 6))) (way_at (at row 5))
+seven_of seven.Elem row =
+    option_and_then (λ way. Some (instr.Elem (at row 0) (record { base = at row 1; offset = at row 2 }) (at row 3) (at row 4) way (at row 6)))
+    (way_at (at row 5))
 seven_of seven.Swap row = Some (instr.Swap (record { base = at row 0; offset = at row 1 }) (at row 2) (at row 3) (at row 4) (at row 5) (at row 6))
 
 -- what is made of so many counts

@@ -65,7 +65,13 @@ counted turns blocks freed opened closed = record { turns = turns; blocks = bloc
 -- with ten turns, and no input
 abbrev pub runs : List Fun → List ℕ → Stop → Counts → List Event → Example
 runs funs output stop counts journal =
-    record { object = object funs; input = []; cut = false; turns = 10; run = record { output = output; stop = stop; taken = 0; counts = counts; journal = journal } }
+    record {
+      object = object funs;
+      input = [];
+      cut = false;
+      turns = 10;
+      run = record { output = output; stop = stop; taken = 0; counts = counts; journal = journal };
+    }
 
 abbrev pub done : Stop
 done = Ended end.Done
@@ -126,12 +132,15 @@ on_words =
     fails (pos 0) (pos 1) (instr.Check 0 1) trap.Precondition ∷
     -- the move takes word 0; copies leave it
     is_stuck (instr.Const 0 (pos 1) ∷ instr.Move (own 1) (own 0) 1 ∷ instr.Copy (own 2) (own 0) 1 ∷ instr.Return 0 ∷ []) kind.Unset 2 ∷
-    is_stuck (instr.Const 0 (pos 1) ∷ instr.Copy (own 1) (own 0) 1 ∷ instr.Move (own 2) (own 0) 1 ∷ instr.Print 0 shown.Int ∷ instr.Return 0 ∷ []) kind.Unset 3 ∷
+    is_stuck (instr.Const 0 (pos 1) ∷ instr.Copy (own 1) (own 0) 1 ∷ instr.Move (own 2) (own 0) 1 ∷ instr.Print 0 shown.Int ∷ instr.Return 0 ∷ [])
+    kind.Unset 3 ∷
     -- a copy between ranges that overlap reads both words first
-    runs (main 3 0 (instr.Const 0 (pos 1) ∷ instr.Const 1 (pos 2) ∷ instr.Copy (own 1) (own 0) 2 ∷ instr.Print 1 shown.Int ∷ instr.Print 2 shown.Int ∷ instr.Return 0 ∷ []) ∷ [])
+    runs (main 3 0 (instr.Const 0 (pos 1) ∷ instr.Const 1 (pos 2) ∷ instr.Copy (own 1) (own 0) 2 ∷ instr.Print 1 shown.Int ∷ instr.Print 2 shown.Int ∷
+    instr.Return 0 ∷ []) ∷ [])
     (line (codes "1") ++ line (codes "2")) done (counted 1 1 1 0 0) (Allocated 0 ∷ Freed 0 ∷ []) ∷
     -- truth values, and a check that holds
-    runs (main 1 0 (instr.Const 0 (pos 2) ∷ instr.Check 0 0 ∷ instr.Print 0 shown.Bool ∷ instr.Const 0 (pos 0) ∷ instr.Print 0 shown.Bool ∷ instr.Return 0 ∷ []) ∷ [])
+    runs (main 1 0 (instr.Const 0 (pos 2) ∷ instr.Check 0 0 ∷ instr.Print 0 shown.Bool ∷ instr.Const 0 (pos 0) ∷ instr.Print 0 shown.Bool ∷ instr.Return 0 ∷
+    []) ∷ [])
     (line (codes "true") ++ line (codes "false")) done (counted 1 1 1 0 0) (Allocated 0 ∷ Freed 0 ∷ []) ∷
     []
 
@@ -143,15 +152,27 @@ reader = object (main 1 0 (instr.Read 0 1 ∷ instr.Print 0 shown.Int ∷ instr.
 
 abbrev pub reads : List ℕ → Bool → List ℕ → Stop → (taken : ℕ) → Example
 reads input cut output stop taken =
-    record { object = reader; input = input; cut = cut; turns = 5; run = record { output = output; stop = stop; taken = taken; counts = counted 1 1 0 0 0; journal = Allocated 0 ∷ [] } }
+    record {
+      object = reader;
+      input = input;
+      cut = cut;
+      turns = 5;
+      run = record { output = output; stop = stop; taken = taken; counts = counted 1 1 0 0 0; journal = Allocated 0 ∷ [] };
+    }
 
 abbrev pub reads_whole : List ℕ → List ℕ → (taken : ℕ) → Example
 reads_whole input text taken =
-    record { object = reader; input = input; cut = false; turns = 5; run = record { output = line text; stop = done; taken = taken; counts = counted 1 1 1 0 0; journal = Allocated 0 ∷ Freed 0 ∷ [] } }
+    record {
+      object = reader;
+      input = input;
+      cut = false;
+      turns = 5;
+      run = record { output = line text; stop = done; taken = taken; counts = counted 1 1 1 0 0; journal = Allocated 0 ∷ Freed 0 ∷ [] };
+    }
 
 abbrev pub on_input : List Example
 on_input =
-    -- spaces at both ends and a carriage return before the line feed do not count; what stands behind is left
+    -- spaces at both ends and a carriage return before the line feed do not count; what stands after is left
     reads_whole (codes " 01 " ++ 13 ∷ 10 ∷ codes "7") (codes "1") 6 ∷
     reads_whole (codes "-42" ++ 10 ∷ []) (codes "-42") 4 ∷
     -- the last line needs no line feed
@@ -169,7 +190,13 @@ on_input =
 
 abbrev pub with_turns : ℕ → List Instr → Stop → Counts → List Event → Example
 with_turns turns code stop counts journal =
-    record { object = object (main 1 0 code ∷ []); input = []; cut = false; turns = turns; run = record { output = []; stop = stop; taken = 0; counts = counts; journal = journal } }
+    record {
+      object = object (main 1 0 code ∷ []);
+      input = [];
+      cut = false;
+      turns = turns;
+      run = record { output = []; stop = stop; taken = 0; counts = counts; journal = journal };
+    }
 
 abbrev pub on_turns : List Example
 on_turns =
@@ -187,7 +214,8 @@ on_turns =
     -- a jump forwards takes none
     with_turns 1 (instr.Jump 2 ∷ instr.Jump 0 ∷ instr.Return 0 ∷ []) done (counted 1 1 1 0 0) (Allocated 0 ∷ Freed 0 ∷ []) ∷
     -- one backwards takes one where it is taken
-    with_turns 9 (instr.Const 0 (pos 1) ∷ instr.Jump 3 ∷ instr.Const 0 (pos 0) ∷ instr.JumpIf 0 2 ∷ instr.JumpUnless 0 5 ∷ instr.Return 0 ∷ []) done (counted 2 1 1 0 0) (Allocated 0 ∷ Freed 0 ∷ []) ∷
+    with_turns 9 (instr.Const 0 (pos 1) ∷ instr.Jump 3 ∷ instr.Const 0 (pos 0) ∷ instr.JumpIf 0 2 ∷ instr.JumpUnless 0 5 ∷ instr.Return 0 ∷ []) done
+    (counted 2 1 1 0 0) (Allocated 0 ∷ Freed 0 ∷ []) ∷
     -- checks come before a turn, and before a trap
     with_turns 1 (instr.Call 0 0 1 ∷ instr.Return 0 ∷ []) (Ended end.Spent) (counted 1 1 0 0 0) (Allocated 0 ∷ []) ∷
     with_turns 1 (instr.JumpIf 0 0 ∷ instr.Return 0 ∷ []) (stuck kind.Unset 0 0) (counted 1 1 0 0 0) (Allocated 0 ∷ []) ∷
@@ -219,12 +247,13 @@ on_calls =
     runs (main 2 0 (instr.Call 1 0 2 ∷ instr.Return 0 ∷ []) ∷ fun 0 0 1 1 0 (instr.Const 0 (pos 1) ∷ instr.Return 0 ∷ []) ∷ [])
     [] (stuck kind.Range 1 1) (counted 2 2 0 0 0) (Allocated 0 ∷ Allocated 1 ∷ []) ∷
     -- a word is lent for change
-    runs (main 1 1 (instr.Const 0 (pos 5) ∷ instr.Lend 0 (own 0) 1 way.Write ∷ instr.Call 1 0 1 ∷ instr.Close 0 ∷ instr.Print 0 shown.Int ∷ instr.Return 0 ∷ []) ∷ setter ∷ [])
+    runs (main 1 1 (instr.Const 0 (pos 5) ∷ instr.Lend 0 (own 0) 1 way.Write ∷ instr.Call 1 0 1 ∷ instr.Close 0 ∷ instr.Print 0 shown.Int ∷ instr.Return 0 ∷
+    []) ∷ setter ∷ [])
     (line (codes "7")) done (counted 2 2 2 1 1) (Allocated 0 ∷ Opened ∷ Allocated 1 ∷ Freed 1 ∷ Closed ∷ Freed 0 ∷ []) ∷
     -- or for reading alone
     runs (main 1 1 (instr.Const 0 (pos 5) ∷ instr.Lend 0 (own 0) 1 way.Read ∷ instr.Call 1 0 1 ∷ instr.Return 0 ∷ []) ∷ setter ∷ [])
     [] (stuck kind.Access 1 1) (counted 2 2 0 1 0) (Allocated 0 ∷ Opened ∷ Allocated 1 ∷ []) ∷
-    -- a slot that is handed over is there and filled
+    -- a slot that is handed over exists and is filled
     runs (main 1 1 (instr.Call 1 0 1 ∷ instr.Return 0 ∷ []) ∷ setter ∷ []) [] (stuck kind.Slot 0 0) (counted 1 1 0 0 0) (Allocated 0 ∷ []) ∷
     runs (main 1 1 (instr.Call 1 1 1 ∷ instr.Return 0 ∷ []) ∷ setter ∷ []) [] (stuck kind.Slot 0 0) (counted 1 1 0 0 0) (Allocated 0 ∷ []) ∷
     -- an array that is left in the frame is lost; one that is the result is not
@@ -248,7 +277,8 @@ on_accesses =
     runs (main 1 1 (instr.Lend 0 (own 0) 1 way.Write ∷ instr.Const 0 (pos 0) ∷ instr.Close 0 ∷ instr.Return 0 ∷ []) ∷ [])
     [] (stuck kind.Access 0 1) (counted 1 1 0 1 0) (Allocated 0 ∷ Opened ∷ []) ∷
     -- a lent word may be read beside a reader, and not be stored to
-    is_stuck_open (instr.Const 0 (pos 1) ∷ instr.Lend 0 (own 0) 1 way.Read ∷ instr.Copy (own 1) (own 0) 1 ∷ instr.Const 0 (pos 2) ∷ instr.Return 0 ∷ []) kind.Access 3 ∷
+    is_stuck_open (instr.Const 0 (pos 1) ∷ instr.Lend 0 (own 0) 1 way.Read ∷ instr.Copy (own 1) (own 0) 1 ∷ instr.Const 0 (pos 2) ∷ instr.Return 0 ∷ [])
+    kind.Access 3 ∷
     is_stuck_open (instr.Const 0 (pos 1) ∷ instr.Lend 0 (own 0) 2 way.Write ∷ instr.Copy (own 2) (own 0) 1 ∷ instr.Return 0 ∷ []) kind.Access 2 ∷
     -- a second access for change of the same words
     is_stuck_open (instr.Lend 0 (own 0) 2 way.Write ∷ instr.Lend 1 (own 1) 1 way.Read ∷ instr.Return 0 ∷ []) kind.Access 1 ∷
@@ -256,7 +286,8 @@ on_accesses =
     -- one that reads does not lend for change
     is_stuck_open (instr.Lend 0 (own 0) 2 way.Read ∷ instr.Lend 1 (through 0 0) 1 way.Write ∷ instr.Return 0 ∷ []) kind.Access 1 ∷
     -- a range without cells conflicts with nothing, but it begins in the frame
-    is_stuck_open (instr.Lend 0 (own 0) 2 way.Write ∷ instr.Copy (own 1) (own 1) 0 ∷ instr.Copy (own 5) (own 0) 0 ∷ instr.Copy (own 6) (own 0) 0 ∷ instr.Return 0 ∷ []) kind.Range 3 ∷
+    is_stuck_open (instr.Lend 0 (own 0) 2 way.Write ∷ instr.Copy (own 1) (own 1) 0 ∷ instr.Copy (own 5) (own 0) 0 ∷ instr.Copy (own 6) (own 0) 0 ∷
+    instr.Return 0 ∷ []) kind.Range 3 ∷
     -- words outside the access, though they are in the frame
     is_stuck_open (instr.Const 1 (pos 1) ∷ instr.Lend 0 (own 0) 1 way.Write ∷ instr.Copy (own 3) (through 0 1) 1 ∷ instr.Return 0 ∷ []) kind.Range 2 ∷
     -- a slot that is taken, one that is open at the end, one that holds no access
@@ -267,10 +298,12 @@ on_accesses =
     runs (main 5 2 (instr.Lend 0 (own 0) 2 way.Write ∷ instr.Lend 1 (through 0 1) 1 way.Write ∷ instr.Close 0 ∷ instr.Return 0 ∷ []) ∷ [])
     [] (stuck kind.Slot 0 2) (counted 1 1 0 2 0) (Allocated 0 ∷ Opened ∷ Opened ∷ []) ∷
     -- the words that the inner one leaves may be stored to through the outer one, and not the others
-    runs (main 5 2 (instr.Const 4 (pos 9) ∷ instr.Lend 0 (own 0) 2 way.Write ∷ instr.Lend 1 (through 0 1) 1 way.Read ∷ instr.Copy (through 0 0) (own 4) 1 ∷ instr.Copy (through 0 1) (own 4) 1 ∷ instr.Return 0 ∷ []) ∷ [])
+    runs (main 5 2 (instr.Const 4 (pos 9) ∷ instr.Lend 0 (own 0) 2 way.Write ∷ instr.Lend 1 (through 0 1) 1 way.Read ∷ instr.Copy (through 0 0) (own 4) 1 ∷
+    instr.Copy (through 0 1) (own 4) 1 ∷ instr.Return 0 ∷ []) ∷ [])
     [] (stuck kind.Access 0 4) (counted 1 1 0 2 0) (Allocated 0 ∷ Opened ∷ Opened ∷ []) ∷
     -- closed in order
-    runs (main 5 2 (instr.Const 4 (pos 9) ∷ instr.Lend 0 (own 0) 2 way.Write ∷ instr.Lend 1 (through 0 1) 1 way.Write ∷ instr.Copy (through 1 0) (own 4) 1 ∷ instr.Close 1 ∷ instr.Close 0 ∷ instr.Print 1 shown.Int ∷ instr.Return 0 ∷ []) ∷ [])
+    runs (main 5 2 (instr.Const 4 (pos 9) ∷ instr.Lend 0 (own 0) 2 way.Write ∷ instr.Lend 1 (through 0 1) 1 way.Write ∷ instr.Copy (through 1 0) (own 4) 1 ∷
+    instr.Close 1 ∷ instr.Close 0 ∷ instr.Print 1 shown.Int ∷ instr.Return 0 ∷ []) ∷ [])
     (line (codes "9")) done (counted 1 1 1 2 2) (Allocated 0 ∷ Opened ∷ Opened ∷ Closed ∷ Closed ∷ Freed 0 ∷ []) ∷
     []
 
@@ -295,10 +328,13 @@ is_stuck_beside subscript code output why at_fun at =
 abbrev pub on_subscripts : List Example
 on_subscripts =
     -- stored through what was handed out, while the subscript is suspended
-    runs (main 5 2 (projects (instr.Const 3 (pos 9) ∷ instr.Copy (through 1 0) (own 3) 1 ∷ instr.Slide 1 ∷ instr.Close 0 ∷ instr.Print 0 shown.Int ∷ instr.Return 0 ∷ [])) ∷ around ∷ [])
-    (line (codes "1") ++ line (codes "1") ++ line (codes "9")) done (counted 2 2 2 1 1) (Allocated 0 ∷ Opened ∷ Allocated 1 ∷ Freed 1 ∷ Closed ∷ Freed 0 ∷ []) ∷
+    runs (main 5 2 (projects (instr.Const 3 (pos 9) ∷ instr.Copy (through 1 0) (own 3) 1 ∷ instr.Slide 1 ∷ instr.Close 0 ∷ instr.Print 0 shown.Int ∷
+    instr.Return 0 ∷ [])) ∷ around ∷ [])
+    (line (codes "1") ++ line (codes "1") ++ line (codes "9")) done (counted 2 2 2 1 1)
+    (Allocated 0 ∷ Opened ∷ Allocated 1 ∷ Freed 1 ∷ Closed ∷ Freed 0 ∷ []) ∷
     -- two slides, the first subscript first
-    runs (main 3 4 (instr.Lend 0 (own 0) 1 way.Write ∷ instr.Lend 1 (own 1) 1 way.Write ∷ instr.Const 2 (pos 1) ∷ instr.Project 1 0 2 2 ∷ instr.Const 2 (pos 2) ∷ instr.Project 1 1 2 3 ∷ instr.Slide 2 ∷ instr.Slide 3 ∷ instr.Close 0 ∷ instr.Close 1 ∷ instr.Return 0 ∷ []) ∷ around ∷ [])
+    runs (main 3 4 (instr.Lend 0 (own 0) 1 way.Write ∷ instr.Lend 1 (own 1) 1 way.Write ∷ instr.Const 2 (pos 1) ∷ instr.Project 1 0 2 2 ∷
+    instr.Const 2 (pos 2) ∷ instr.Project 1 1 2 3 ∷ instr.Slide 2 ∷ instr.Slide 3 ∷ instr.Close 0 ∷ instr.Close 1 ∷ instr.Return 0 ∷ []) ∷ around ∷ [])
     (line (codes "1") ++ line (codes "2") ++ line (codes "1") ++ line (codes "2")) done (counted 3 3 3 2 2)
     (Allocated 0 ∷ Opened ∷ Opened ∷ Allocated 1 ∷ Allocated 2 ∷ Freed 1 ∷ Freed 2 ∷ Closed ∷ Closed ∷ Freed 0 ∷ []) ∷
     -- an access that the subscript opened: it is closed by the subscript
@@ -307,7 +343,8 @@ on_subscripts =
     -- not by who has it, and not while the subscript's own lender has made one from it
     runs (main 2 2 (instr.Lend 0 (own 0) 2 way.Write ∷ instr.Project 1 0 0 1 ∷ instr.Close 1 ∷ instr.Return 0 ∷ []) ∷ inner ∷ [])
     [] (stuck kind.Slot 0 2) (counted 2 2 0 2 0) (Allocated 0 ∷ Opened ∷ Allocated 1 ∷ Opened ∷ []) ∷
-    runs (main 2 3 (instr.Lend 0 (own 0) 2 way.Write ∷ instr.Project 1 0 0 1 ∷ instr.Lend 2 (through 1 0) 1 way.Read ∷ instr.Slide 1 ∷ instr.Return 0 ∷ []) ∷ inner ∷ [])
+    runs (main 2 3 (instr.Lend 0 (own 0) 2 way.Write ∷ instr.Project 1 0 0 1 ∷ instr.Lend 2 (through 1 0) 1 way.Read ∷ instr.Slide 1 ∷ instr.Return 0 ∷
+    []) ∷ inner ∷ [])
     [] (stuck kind.Slot 1 2) (counted 2 2 0 3 0) (Allocated 0 ∷ Opened ∷ Allocated 1 ∷ Opened ∷ Opened ∷ []) ∷
     -- an access is not closed while a suspended subscript was lent it
     is_stuck_beside around (instr.Close 0 ∷ instr.Return 0 ∷ []) (line (codes "1")) kind.Slot 0 3 ∷
@@ -319,7 +356,8 @@ on_subscripts =
     -- a yield outside a subscript, one of an empty slot, and a second one
     is_stuck_open (instr.Lend 0 (own 0) 1 way.Read ∷ instr.Yield 0 ∷ instr.Return 0 ∷ []) kind.Order 1 ∷
     is_stuck (instr.Yield 0 ∷ instr.Return 0 ∷ []) kind.Slot 0 ∷
-    is_stuck_beside (fun 1 1 0 1 1 (instr.Yield 0 ∷ instr.Yield 0 ∷ instr.Return 0 ∷ [])) (instr.Slide 1 ∷ instr.Close 0 ∷ instr.Return 0 ∷ []) [] kind.Order 1 1 ∷
+    is_stuck_beside (fun 1 1 0 1 1 (instr.Yield 0 ∷ instr.Yield 0 ∷ instr.Return 0 ∷ [])) (instr.Slide 1 ∷ instr.Close 0 ∷ instr.Return 0 ∷ []) []
+    kind.Order 1 1 ∷
     -- the end of a subscript before its yield, and one after it with a result
     is_stuck_beside (fun 1 1 0 1 1 (instr.Return 0 ∷ [])) (instr.Return 0 ∷ []) [] kind.Order 1 0 ∷
     is_stuck_beside (fun 1 1 1 1 1 (instr.Yield 0 ∷ instr.Return 0 ∷ [])) (instr.Slide 1 ∷ instr.Close 0 ∷ instr.Return 0 ∷ []) [] kind.Order 1 1 ∷
@@ -345,14 +383,19 @@ abbrev pub on_arrays : List Example
 on_arrays =
     with_array (instr.Count 2 (own 0) ∷ instr.Print 2 shown.Int ∷ ends_well) (line (codes "2")) done 3 0 0 (Freed 2 ∷ Freed 0 ∷ []) ∷
     -- an element is lent for change
-    with_array (instr.Const 3 (pos 1) ∷ instr.Const 4 (pos 9) ∷ instr.Elem 0 (own 0) 3 1 way.Write 0 ∷ instr.Copy (through 0 0) (own 4) 1 ∷ instr.Close 0 ∷ instr.Pop (own 0) 2 1 0 ∷ instr.Print 2 shown.Int ∷ ends_well)
+    with_array (instr.Const 3 (pos 1) ∷ instr.Const 4 (pos 9) ∷ instr.Elem 0 (own 0) 3 1 way.Write 0 ∷ instr.Copy (through 0 0) (own 4) 1 ∷ instr.Close 0 ∷
+    instr.Pop (own 0) 2 1 0 ∷ instr.Print 2 shown.Int ∷ ends_well)
     (line (codes "9")) done 3 1 1 (Opened ∷ Closed ∷ Freed 2 ∷ Freed 0 ∷ []) ∷
     -- beside it the array is not changed, and not even counted
-    with_array (instr.Const 3 (pos 1) ∷ instr.Elem 0 (own 0) 3 1 way.Write 0 ∷ instr.Count 2 (own 0) ∷ ends_well) [] (stuck kind.Access 0 8) 1 1 0 (Opened ∷ []) ∷
-    with_array (instr.Const 3 (pos 1) ∷ instr.Elem 0 (own 0) 3 1 way.Read 0 ∷ instr.Count 2 (own 0) ∷ ends_well) [] (stuck kind.Access 0 9) 1 1 0 (Opened ∷ []) ∷
-    with_array (instr.Const 3 (pos 1) ∷ instr.Elem 0 (own 0) 3 1 way.Read 0 ∷ instr.Grow (own 0) 1 ∷ ends_well) [] (stuck kind.Access 0 8) 1 1 0 (Opened ∷ []) ∷
+    with_array (instr.Const 3 (pos 1) ∷ instr.Elem 0 (own 0) 3 1 way.Write 0 ∷ instr.Count 2 (own 0) ∷ ends_well) [] (stuck kind.Access 0 8) 1 1 0 (Opened ∷
+    []) ∷
+    with_array (instr.Const 3 (pos 1) ∷ instr.Elem 0 (own 0) 3 1 way.Read 0 ∷ instr.Count 2 (own 0) ∷ ends_well) [] (stuck kind.Access 0 9) 1 1 0 (Opened ∷
+    []) ∷
+    with_array (instr.Const 3 (pos 1) ∷ instr.Elem 0 (own 0) 3 1 way.Read 0 ∷ instr.Grow (own 0) 1 ∷ ends_well) []
+    (stuck kind.Access 0 8) 1 1 0 (Opened ∷ []) ∷
     -- a second element for change
-    with_array (instr.Const 3 (pos 1) ∷ instr.Const 4 (pos 0) ∷ instr.Elem 0 (own 0) 3 1 way.Write 0 ∷ instr.Elem 1 (own 0) 4 1 way.Write 0 ∷ ends_well) [] (stuck kind.Access 0 9) 1 1 0 (Opened ∷ []) ∷
+    with_array (instr.Const 3 (pos 1) ∷ instr.Const 4 (pos 0) ∷ instr.Elem 0 (own 0) 3 1 way.Write 0 ∷ instr.Elem 1 (own 0) 4 1 way.Write 0 ∷ ends_well) []
+    (stuck kind.Access 0 9) 1 1 0 (Opened ∷ []) ∷
     -- indices
     with_array (instr.Const 3 (pos 2) ∷ instr.Elem 0 (own 0) 3 1 way.Read 1 ∷ ends_well) [] (trapped trap.Index two) 1 0 0 [] ∷
     with_array (instr.Const 3 (negsuc 0) ∷ instr.Elem 0 (own 0) 3 1 way.Read 1 ∷ ends_well) [] (trapped trap.Index two) 1 0 0 [] ∷
@@ -368,7 +411,8 @@ on_arrays =
     with_array (instr.Pop (own 0) 2 1 0 ∷ instr.Print 2 shown.Int ∷ instr.Pop (own 0) 2 1 0 ∷ instr.Print 2 shown.Int ∷ instr.Pop (own 0) 2 1 1 ∷ ends_well)
     (line (codes "6") ++ line (codes "5")) (trapped trap.Empty two) 1 0 0 [] ∷
     -- room for four, and no more
-    with_array (instr.Const 2 (pos 7) ∷ instr.Push (own 0) 2 1 ∷ instr.Const 2 (pos 8) ∷ instr.Push (own 0) 2 1 ∷ instr.Const 2 (pos 9) ∷ instr.Push (own 0) 2 1 ∷ ends_well)
+    with_array (instr.Const 2 (pos 7) ∷ instr.Push (own 0) 2 1 ∷ instr.Const 2 (pos 8) ∷ instr.Push (own 0) 2 1 ∷ instr.Const 2 (pos 9) ∷
+    instr.Push (own 0) 2 1 ∷ ends_well)
     [] (stuck kind.Range 0 11) 1 0 0 [] ∷
     -- words and names
     with_array (instr.Print 0 shown.Int ∷ ends_well) [] (stuck kind.Kind 0 6) 1 0 0 [] ∷
@@ -382,13 +426,16 @@ on_arrays =
     runs (main 4 0 (instr.NewArray (own 0) ∷ instr.NewArray (own 2) ∷ instr.Pop (own 0) 2 1 1 ∷ instr.Return 0 ∷ []) ∷ [])
     [] (stuck kind.Lost 0 2) (counted 1 3 0 0 0) (Allocated 0 ∷ Allocated 1 ∷ Allocated 2 ∷ []) ∷
     -- an array in an array; freed with an element it would be lost, and its own cells are not pushed into it
-    runs (main 4 0 (instr.NewArray (own 0) ∷ instr.NewArray (own 2) ∷ instr.Grow (own 0) 2 ∷ instr.Push (own 0) 2 2 ∷ instr.FreeArray (own 0) ∷ instr.Return 0 ∷ []) ∷ [])
+    runs (main 4 0 (instr.NewArray (own 0) ∷ instr.NewArray (own 2) ∷ instr.Grow (own 0) 2 ∷ instr.Push (own 0) 2 2 ∷ instr.FreeArray (own 0) ∷
+    instr.Return 0 ∷ []) ∷ [])
     [] (stuck kind.Lost 0 4) (counted 1 4 1 0 0) (Allocated 0 ∷ Allocated 1 ∷ Allocated 2 ∷ Allocated 3 ∷ Freed 1 ∷ []) ∷
-    runs (main 4 0 (instr.NewArray (own 0) ∷ instr.NewArray (own 2) ∷ instr.Grow (own 0) 2 ∷ instr.Push (own 0) 2 2 ∷ instr.Pop (own 0) 2 2 0 ∷ instr.FreeArray (own 2) ∷ instr.FreeArray (own 0) ∷ instr.Return 0 ∷ []) ∷ [])
+    runs (main 4 0 (instr.NewArray (own 0) ∷ instr.NewArray (own 2) ∷ instr.Grow (own 0) 2 ∷ instr.Push (own 0) 2 2 ∷ instr.Pop (own 0) 2 2 0 ∷
+    instr.FreeArray (own 2) ∷ instr.FreeArray (own 0) ∷ instr.Return 0 ∷ []) ∷ [])
     [] done (counted 1 4 4 0 0) (Allocated 0 ∷ Allocated 1 ∷ Allocated 2 ∷ Allocated 3 ∷ Freed 1 ∷ Freed 2 ∷ Freed 3 ∷ Freed 0 ∷ []) ∷
     with_array (instr.Push (own 0) 0 2 ∷ ends_well) [] (stuck kind.Range 0 6) 1 0 0 [] ∷
     -- elements without words take one word of room each
-    runs (main 3 0 (instr.NewArray (own 0) ∷ instr.Push (own 0) 2 0 ∷ instr.Return 0 ∷ []) ∷ []) [] (stuck kind.Range 0 1) (counted 1 2 0 0 0) (Allocated 0 ∷ Allocated 1 ∷ []) ∷
+    runs (main 3 0 (instr.NewArray (own 0) ∷ instr.Push (own 0) 2 0 ∷ instr.Return 0 ∷ []) ∷ []) [] (stuck kind.Range 0 1) (counted 1 2 0 0 0)
+    (Allocated 0 ∷ Allocated 1 ∷ []) ∷
     runs (main 3 0 (instr.NewArray (own 0) ∷ instr.Grow (own 0) 0 ∷ instr.Push (own 0) 2 0 ∷ instr.Count 2 (own 0) ∷ instr.Print 2 shown.Int ∷ ends_well) ∷ [])
     (line (codes "1")) done (counted 1 3 3 0 0) (Allocated 0 ∷ Allocated 1 ∷ Allocated 2 ∷ Freed 1 ∷ Freed 2 ∷ Freed 0 ∷ []) ∷
     -- a loop that pushes five times: the room is 0, 4 and then 8 words
@@ -407,10 +454,17 @@ counting =
 
 abbrev pub counts_with : ℕ → List ℕ → Stop → (freed : ℕ) → List Event → Example
 counts_with turns output stop freed journal =
-    record { object = object (main 4 0 counting ∷ []); input = []; cut = false; turns = turns; run = record { output = output; stop = stop; taken = 0; counts = counted turns 1 freed 0 0; journal = Allocated 0 ∷ journal } }
+    record {
+      object = object (main 4 0 counting ∷ []);
+      input = [];
+      cut = false;
+      turns = turns;
+      run = record { output = output; stop = stop; taken = 0; counts = counted turns 1 freed 0 0; journal = Allocated 0 ∷ journal };
+    }
 
 abbrev pub to_eight : List ℕ
-to_eight = line (codes "0") ++ line (codes "1") ++ line (codes "2") ++ line (codes "3") ++ line (codes "4") ++ line (codes "5") ++ line (codes "6") ++ line (codes "7") ++ line (codes "8")
+to_eight = line (codes "0") ++ line (codes "1") ++ line (codes "2") ++ line (codes "3") ++ line (codes "4") ++ line (codes "5") ++ line (codes "6") ++ line
+    (codes "7") ++ line (codes "8")
 
 -- a subscript that hands out a tenth of the word that it is lent, and stores it back ten times
 abbrev pub tenths : Fun
@@ -422,7 +476,8 @@ tenths = fun 1 0 0 3 2 (
 abbrev pub adds_a_tenth : List Instr
 adds_a_tenth =
     instr.Const 0 (pos 250) ∷ instr.Lend 0 (own 0) 1 way.Write ∷ instr.Project 1 0 1 1 ∷
-    instr.Const 1 (pos 1) ∷ instr.Lend 2 (through 1 0) 1 way.Write ∷ instr.Copy (own 2) (through 2 0) 1 ∷ instr.Add 2 2 1 0 ∷ instr.Copy (through 2 0) (own 2) 1 ∷ instr.Close 2 ∷
+    instr.Const 1 (pos 1) ∷ instr.Lend 2 (through 1 0) 1 way.Write ∷ instr.Copy (own 2) (through 2 0) 1 ∷ instr.Add 2 2 1 0 ∷
+    instr.Copy (through 2 0) (own 2) 1 ∷ instr.Close 2 ∷
     instr.Copy (own 2) (through 1 0) 1 ∷ instr.Print 2 shown.Int ∷ instr.Slide 1 ∷ instr.Close 0 ∷ instr.Print 0 shown.Int ∷ instr.Return 0 ∷ []
 
 -- prints its first lent word, hands out the second one, and prints the first one with 100 more
@@ -434,7 +489,8 @@ speaking = fun 2 0 0 2 3 (
 -- adds what is in word 4 to what the slot reaches
 abbrev pub adds_through : ℕ → List Instr → List Instr
 adds_through slot code =
-    instr.Lend 6 (through slot 0) 1 way.Write ∷ instr.Copy (own 5) (through 6 0) 1 ∷ instr.Add 5 5 4 0 ∷ instr.Copy (through 6 0) (own 5) 1 ∷ instr.Close 6 ∷ code
+    instr.Lend 6 (through slot 0) 1 way.Write ∷ instr.Copy (own 5) (through 6 0) 1 ∷ instr.Add 5 5 4 0 ∷ instr.Copy (through 6 0) (own 5) 1 ∷
+    instr.Close 6 ∷ code
 
 -- two projections, of which the first one is closed first
 abbrev pub crossed : List Instr
@@ -448,7 +504,8 @@ crossed =
 
 -- hands out the element of an array at an index
 abbrev pub at_index : Fun
-at_index = fun 2 0 0 1 3 (instr.Copy (own 0) (through 1 0) 1 ∷ instr.Elem 2 (through 0 0) 0 1 way.Write 1 ∷ instr.Yield 2 ∷ instr.Close 2 ∷ instr.Return 0 ∷ [])
+at_index = fun 2 0 0 1 3 (instr.Copy (own 0) (through 1 0) 1 ∷ instr.Elem 2 (through 0 0) 0 1 way.Write 1
+    ∷ instr.Yield 2 ∷ instr.Close 2 ∷ instr.Return 0 ∷ [])
 
 abbrev pub with_element : List Instr → List Instr
 with_element code = five_and_six (instr.Const 3 (pos 1) ∷ instr.Lend 0 (own 0) 2 way.Write ∷ instr.Lend 1 (own 3) 1 way.Read ∷ instr.Project 1 0 2 2 ∷ code)
@@ -473,15 +530,20 @@ on_programs =
     (line (codes "1") ++ line (codes "2") ++ line (codes "101") ++ line (codes "102") ++ line (codes "11") ++ line (codes "22")) done (counted 3 3 3 8 8)
     (Allocated 0 ∷ Opened ∷ Opened ∷ Allocated 1 ∷ Opened ∷ Opened ∷ Opened ∷ Allocated 2 ∷ Opened ∷ Opened ∷ Closed ∷ Closed ∷ Freed 1 ∷ Closed ∷ Closed ∷
     Opened ∷ Closed ∷ Closed ∷ Freed 2 ∷ Closed ∷ Closed ∷ Freed 0 ∷ []) ∷
-    runs (main 6 3 (with_element (instr.Const 4 (pos 9) ∷ instr.Copy (through 2 0) (own 4) 1 ∷ instr.Slide 2 ∷ instr.Close 1 ∷ instr.Close 0 ∷ instr.Pop (own 0) 2 1 0 ∷ instr.Print 2 shown.Int ∷ ends_well)) ∷ at_index ∷ [])
-    (line (codes "9")) done (counted 2 4 4 3 3) (Allocated 0 ∷ Allocated 1 ∷ Allocated 2 ∷ Freed 1 ∷ Opened ∷ Opened ∷ Allocated 3 ∷ Opened ∷ Closed ∷ Freed 3 ∷ Closed ∷ Closed ∷ Freed 2 ∷ Freed 0 ∷ []) ∷
+    runs (main 6 3 (with_element (instr.Const 4 (pos 9) ∷ instr.Copy (through 2 0) (own 4) 1 ∷ instr.Slide 2 ∷ instr.Close 1 ∷ instr.Close 0 ∷
+    instr.Pop (own 0) 2 1 0 ∷ instr.Print 2 shown.Int ∷ ends_well)) ∷ at_index ∷ [])
+    (line (codes "9")) done (counted 2 4 4 3 3) (Allocated 0 ∷ Allocated 1 ∷ Allocated 2 ∷ Freed 1 ∷ Opened ∷ Opened ∷ Allocated 3 ∷ Opened ∷ Closed ∷
+    Freed 3 ∷ Closed ∷ Closed ∷ Freed 2 ∷ Freed 0 ∷ []) ∷
     -- the array itself is not grown while an element is handed out, through the access that was lent neither
     runs (main 6 3 (with_element (instr.Grow (through 0 0) 1 ∷ ends_well)) ∷ at_index ∷ [])
     [] (stuck kind.Access 0 10) (counted 2 4 1 3 0) (Allocated 0 ∷ Allocated 1 ∷ Allocated 2 ∷ Freed 1 ∷ Opened ∷ Opened ∷ Allocated 3 ∷ Opened ∷ []) ∷
-    runs (main 4 2 (instr.Lend 0 (own 0) 1 way.Write ∷ instr.Const 2 (pos 1) ∷ instr.Project 2 0 2 1 ∷ instr.Const 3 (pos 9) ∷ instr.Copy (through 1 0) (own 3) 1 ∷ instr.Slide 1 ∷ instr.Close 0 ∷ instr.Print 0 shown.Int ∷ instr.Return 0 ∷ []) ∷ around ∷ passing_on ∷ [])
-    (line (codes "1") ++ line (codes "1") ++ line (codes "9")) done (counted 3 3 3 1 1) (Allocated 0 ∷ Opened ∷ Allocated 1 ∷ Allocated 2 ∷ Freed 2 ∷ Freed 1 ∷ Closed ∷ Freed 0 ∷ []) ∷
+    runs (main 4 2 (instr.Lend 0 (own 0) 1 way.Write ∷ instr.Const 2 (pos 1) ∷ instr.Project 2 0 2 1 ∷ instr.Const 3 (pos 9) ∷
+    instr.Copy (through 1 0) (own 3) 1 ∷ instr.Slide 1 ∷ instr.Close 0 ∷ instr.Print 0 shown.Int ∷ instr.Return 0 ∷ []) ∷ around ∷ passing_on ∷ [])
+    (line (codes "1") ++ line (codes "1") ++ line (codes "9")) done (counted 3 3 3 1 1) (Allocated 0 ∷ Opened ∷ Allocated 1 ∷ Allocated 2 ∷ Freed 2 ∷
+    Freed 1 ∷ Closed ∷ Freed 0 ∷ []) ∷
     runs (main 1 0 (instr.Const 0 (pos 3) ∷ instr.Call 1 0 0 ∷ instr.Print 0 shown.Int ∷ instr.Return 0 ∷ []) ∷ summing ∷ [])
-    (line (codes "6")) done (counted 5 5 5 0 0) (Allocated 0 ∷ Allocated 1 ∷ Allocated 2 ∷ Allocated 3 ∷ Allocated 4 ∷ Freed 4 ∷ Freed 3 ∷ Freed 2 ∷ Freed 1 ∷ Freed 0 ∷ []) ∷
+    (line (codes "6")) done (counted 5 5 5 0 0) (Allocated 0 ∷ Allocated 1 ∷ Allocated 2 ∷ Allocated 3 ∷ Allocated 4 ∷ Freed 4 ∷ Freed 3 ∷ Freed 2 ∷
+    Freed 1 ∷ Freed 0 ∷ []) ∷
     []
 
 -- STATES BY HAND

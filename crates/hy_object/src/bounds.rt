@@ -162,7 +162,7 @@ fn is_size(words: u32) -> bool
     words <= MOST_WORDS
 }
 
-/// Whether the instruction may be the one with so many behind it: the last one does not go on to a next.
+/// Whether the instruction may be the one with so many after it: the last one does not go on to a next.
 pub fn may_stand(instr: Instr, behind: u32) -> bool
     ensures { result ≡ may_stand behind instr }
 {

@@ -1,12 +1,13 @@
 // The forms of instructions, by how many counts they have.
 ghost use Rattle.std.specs.Prelude.{◌≡◌, length};
-ghost use Rattle.hy_object.specs.Reading.{Finds, read_const, read_form, read_instr, form_at, one_of, two_of, three_of, four_of, five_of, seven_of, way_at, shown_at};
+ghost use Rattle.hy_object.specs.Reading.{Finds, read_const, read_form, read_instr, form_at, one_of, two_of, three_of, four_of, five_of, seven_of, way_at};
+ghost use Rattle.hy_object.specs.Reading.{shown_at};
 
 use crate::instr::{Instr, Place, Shown, Way};
 use crate::number::{count, row, value};
 use sqlite_items::at;
 
-/// The instruction that some bytes begin with, and what is behind it.
+/// The instruction that some bytes begin with, and what follows it.
 #[tactic(auto, unfolding(crate::specs::Reading::read_instr))]
 pub fn instruction(bytes: &[u8]) -> Option<(Instr, &[u8])>
     ensures { Finds (λ x. (x.0, x.1.now)) result (read_instr bytes.now) }
@@ -28,7 +29,7 @@ fn read_const(bytes: &[u8]) -> Option<(Instr, &[u8])>
     Some((Instr::Const { to, value }, rest))
 }
 
-/// What comes behind the number of an instruction.
+/// What comes after the number of an instruction.
 #[derive(Clone, Copy)]
 pub enum Form {
     /// A count and a value.
@@ -147,7 +148,7 @@ impl Form {
         at(&FORMS, number as usize - 1).copied()
     }
 
-    /// The instruction of that form, whose fields come first, and what is behind it.
+    /// The instruction of that form, whose fields come first, and what follows it.
     fn read(self, bytes: &[u8]) -> Option<(Instr, &[u8])>
         ensures { Finds (λ x. (x.0, x.1.now)) result (read_form (Some self) bytes.now) }
     {

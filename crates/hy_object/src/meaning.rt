@@ -2,7 +2,8 @@
 ghost use Rattle.hy_object.specs.Changes.{EveryStepChanges};
 ghost use Rattle.hy_object.specs.Names.{NamesAreCounted};
 ghost use Rattle.hy_object.specs.Runs.{CutRunsAgree, EveryRunAddsUp, EveryRunEnds, OneRun, WritesBeginnings};
-ghost use Rattle.hy_object.specs.SmallObjects.{AllAnswered, IsStuckAtFreed, OpenAsToldBy, TellsSafeAndBalanced, both_open, child_closed, on_accesses, on_arrays, on_calls, on_input, on_programs, on_subscripts, on_turns, on_words};
+ghost use Rattle.hy_object.specs.SmallObjects.{AllAnswered, IsStuckAtFreed, OpenAsToldBy, TellsSafeAndBalanced, both_open, child_closed, on_accesses};
+ghost use Rattle.hy_object.specs.SmallObjects.{on_arrays, on_calls, on_input, on_programs, on_subscripts, on_turns, on_words};
 
 /// A run has one end: an object that ends on an input with a number of turns is seen so in one way only.
 pub fn one_run()

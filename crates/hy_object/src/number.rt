@@ -3,7 +3,7 @@ ghost use Rattle.std.specs.Prelude.{◌≡◌, ◌<◌, ◌^◌, []};
 ghost use Rattle.hy_object.specs.Numbers.{low_group};
 ghost use Rattle.hy_object.specs.Reading.{Finds, read_groups, read_count, read_signed, read_value, read_row, last_group, with_group, value_by_sign};
 
-/// A count: a number below 2^32 in its shortest form, and what is behind it.
+/// A count: a number below 2^32 in its shortest form, and what follows it.
 pub fn count(bytes: &[u8]) -> Option<(u32, &[u8])>
     ensures { Finds (λ x. (x.0, x.1.now)) result (read_count bytes.now) }
 {
@@ -36,7 +36,7 @@ fn groups(bytes: &[u8], most: u32) -> Option<(u32, &[u8])>
     Some((128 * high + (first - 128) as u32, rest))
 }
 
-/// So many counts, and what is behind them.
+/// So many counts, and what follows them.
 pub fn row<const N: usize>(bytes: &[u8]) -> Option<([u32; N], &[u8])>
     ensures { Finds (λ x. (x.0, x.1.now)) result (read_row N [] bytes.now) }
 {
@@ -59,7 +59,7 @@ struct Signed {
     number: u64,
 }
 
-/// A number of 64 bits in its shortest form, and what is behind it.
+/// A number of 64 bits in its shortest form, and what follows it.
 pub fn value(bytes: &[u8]) -> Option<(i64, &[u8])>
     ensures { Finds (λ x. (x.0, x.1.now)) result (read_value bytes.now) }
 {

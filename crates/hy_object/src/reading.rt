@@ -4,7 +4,8 @@ ghost use Rattle.hy_object.specs.declared.reading.Stop.TheVariants.{NoMemory};
 ghost use Rattle.hy_object.specs.declared.object.Object.{Object};
 ghost use Rattle.hy_object.specs.Places.{Decodes, Spells, Gives, IsBadAt, Refuses};
 ghost use Rattle.hy_object.specs.Reading.{Finds};
-ghost use Rattle.hy_object.specs.Formats.{Reads, Ends, Number, Then, Mark, read_mark, read_span, read_number, read_code, many, one_span, one_instr, one_fun, header_format, fun_format, most};
+ghost use Rattle.hy_object.specs.Formats.{Reads, Ends, Number, Then, Mark, read_mark, read_span, read_number, read_code, many, one_span, one_instr};
+ghost use Rattle.hy_object.specs.Formats.{one_fun, header_format, fun_format, most};
 
 use crate::bounds::{Bounds, may_stand};
 use crate::form::instruction;
@@ -140,7 +141,7 @@ fn read_funs(
     Ok((funs, rest))
 }
 
-/// How many accesses, owned words and result words a function may have behind these: none where it is `main`.
+/// How many accesses, owned words and result words a function may have after these: none where it is `main`.
 fn most(funs: &Items<Fun>) -> u32
     ensures { result ≡ most funs.now }
 {
@@ -225,7 +226,7 @@ fn read_code<'a>(
     Ok((code, rest))
 }
 
-/// An instruction that may stand there, with so many behind it.
+/// An instruction that may stand there, with so many after it.
 fn read_instr<'a>(bounds: &Bounds, behind: u32, bytes: &'a [u8]) -> Option<(Instr, &'a [u8])>
     ensures { Finds (λ x. (x.0, x.1.now)) result (read_code bounds.now behind bytes.now) }
 {

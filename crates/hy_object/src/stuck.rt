@@ -7,7 +7,7 @@ pub enum Kind {
     Unset,
     /// Cells are outside the frame, the access or the block, or two ranges overlap.
     Range,
-    /// A block's name stands where a word is wanted, or the reverse.
+    /// A block's name is found where a word is wanted, or the reverse.
     Kind,
     /// The use is not allowed beside a live access, or is a write through an access that reads.
     Access,

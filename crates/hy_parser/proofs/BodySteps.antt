@@ -1,4 +1,4 @@
--- What the machine wants behind the parameters of something callable.
+-- What the machine wants after the parameters of something callable.
 use Rattle.std.proofs.Common.{◌≡◌, ◌+◌, ℕ, true, false, Option, Some, None, List, [], refl, ap, ◌∙◌}
 use Rattle.hy_base.specs.declared.position.Span.{Span}
 use Rattle.hy_lexer.specs.declared.token.Token.{Token}
@@ -6,12 +6,14 @@ use Rattle.hy_lexer.specs.declared.token.TokenKind.{TokenKind}
 use Rattle.hy_lexer.specs.declared.token.TokenKind.TheVariants as k
 use Rattle.hy_tree.specs.Tree as T
 use Rattle.hy_tree.specs.declared.operator.Mode.{Mode}
-use Rattle.hy_grammar.specs.DeclSteps.{sort_in, with_effect, at_colon, at_effect, at_params_read, at_result, at_body, body_opened, method_body, plain_only, at_callable_read}
+use Rattle.hy_grammar.specs.DeclSteps.{sort_in, with_effect, at_colon, at_effect, at_params_read, at_result, at_body, body_opened, method_body, plain_only}
+use Rattle.hy_grammar.specs.DeclSteps.{at_callable_read}
 use Rattle.hy_parser.specs.Headings.{Fits, callable_done, effect_in, has_body, may_vary}
 use Rattle.hy_grammar.specs.Machine.{step, finish, walk}
 use Rattle.hy_grammar.specs.Nodes as node
 use Rattle.hy_parser.specs.Separated.{ahead}
-use Rattle.hy_grammar.specs.Stack.{Home, InFile, InOwner, Sort, FileFunction, Method, Requirement, Subscript, Deinit, Head, depth, depth_home, depth_head, ParamsRead, EffectRead, ResultRead, TypeWanted, ForResult, BodyOpened}
+use Rattle.hy_grammar.specs.Stack.{Home, InFile, InOwner, Sort, FileFunction, Method, Requirement, Subscript, Deinit, Head, depth, depth_home, depth_head}
+use Rattle.hy_grammar.specs.Stack.{ParamsRead, EffectRead, ResultRead, TypeWanted, ForResult, BodyOpened}
 use Rattle.hy_grammar.specs.StmtSteps.{callable_of, called_in}
 use Rattle.hy_phrases.specs.Wanted.{Sees}
 use Rattle.hy_parser.proofs.Follows.{alike_on, on_each, none_ahead}
@@ -31,24 +33,30 @@ subscript_wants head to is = record {
   unfinished = λ place. refl;
 }
 
-effect_step : (sort : Sort) (t : Token) (n : ℕ) (head : Head) (to : ℕ) → (sort ≡ Subscript → ⊥) → at_params_read sort t n head to ≡ at_effect (effect_in sort t.kind) t n head to
+effect_step : (sort : Sort) (t : Token) (n : ℕ) (head : Head) (to : ℕ) → (sort ≡ Subscript → ⊥)
+    → at_params_read sort t n head to ≡ at_effect (effect_in sort t.kind) t n head to
 effect_step FileFunction t n head to h = refl
 effect_step Method t n head to h = refl
 effect_step Requirement t n head to h = refl
 effect_step Subscript t n head to h = absurd (h refl)
 effect_step Deinit t n head to h = refl
 
-pub effect_taken : (head : Head) (to : ℕ) (mode : Mode) (t : Token) (place : ℕ) → (head.sort ≡ Subscript → ⊥) → effect_in head.sort t.kind ≡ Some mode → step (ParamsRead head to) t place ≡ Some (EffectRead (with_effect head mode) t.span.to)
+pub effect_taken : (head : Head) (to : ℕ) (mode : Mode) (t : Token) (place : ℕ) → (head.sort ≡ Subscript → ⊥) → effect_in head.sort t.kind ≡ Some mode
+    → step (ParamsRead head to) t place ≡ Some (EffectRead (with_effect head mode) t.span.to)
 unfolding step
 effect_taken head to mode t place h is = effect_step head.sort t place head to h ∙ ap (λ o. at_effect o t place head to) is
 
-no_effect_at : (head : Head) (to : ℕ) (t : Token) (place : ℕ) → (head.sort ≡ Subscript → ⊥) → effect_in head.sort t.kind ≡ None → step (ParamsRead head to) t place ≡ step (EffectRead head to) t place
+no_effect_at : (head : Head) (to : ℕ) (t : Token) (place : ℕ) → (head.sort ≡ Subscript → ⊥) → effect_in head.sort t.kind ≡ None
+    → step (ParamsRead head to) t place ≡ step (EffectRead head to) t place
 unfolding step
 no_effect_at head to t place h is = effect_step head.sort t place head to h ∙ ap (λ o. at_effect o t place head to) is
 
-pub no_effect : (total : ℕ) (head : Head) (to : ℕ) (old : List Token) → (head.sort ≡ Subscript → ⊥) → ahead (effect_in head.sort) old ≡ None → walk total (ParamsRead head to) old ≡ walk total (EffectRead head to) old
+pub no_effect : (total : ℕ) (head : Head) (to : ℕ) (old : List Token) → (head.sort ≡ Subscript → ⊥) → ahead (effect_in head.sort) old ≡ None
+    → walk total (ParamsRead head to) old ≡ walk total (EffectRead head to) old
 unfolding finish
-no_effect total head to old h is = alike_on total (ParamsRead head to) (EffectRead head to) old (λ place. refl) (none_ahead (effect_in head.sort) old is (λ t e place. no_effect_at head to t place h e))
+no_effect total head to old h is =
+    alike_on total (ParamsRead head to) (EffectRead head to) old (λ place. refl)
+    (none_ahead (effect_in head.sort) old is (λ t e place. no_effect_at head to t place h e))
 
 pub arrow : (head : Head) (to : ℕ) → Follows k.Arrow (EffectRead head to) (λ span. TypeWanted (ForResult head))
 unfolding step
@@ -58,20 +66,24 @@ no_arrow_at : (it : TokenKind) (t : Token) (n : ℕ) (head : Head) (to : ℕ) �
 no_arrow_at k.Arrow t n head to h = absurd (h refl)
 no_arrow_at _ t n head to h = refl
 
-pub no_arrow : (total : ℕ) (head : Head) (to : ℕ) (old : List Token) → (Sees k.Arrow old → ⊥) → walk total (EffectRead head to) old ≡ walk total (ResultRead head to) old
+pub no_arrow : (total : ℕ) (head : Head) (to : ℕ) (old : List Token) → (Sees k.Arrow old → ⊥)
+    → walk total (EffectRead head to) old ≡ walk total (ResultRead head to) old
 unfolding step finish
-no_arrow total head to old h = alike_without total k.Arrow (EffectRead head to) (ResultRead head to) old h (λ t place g. no_arrow_at t.kind t place head to g) (λ place. refl)
+no_arrow total head to old h =
+    alike_without total k.Arrow (EffectRead head to) (ResultRead head to) old h (λ t place g. no_arrow_at t.kind t place head to g) (λ place. refl)
 
 -- BODIES
 
-body_taken : (sort : Sort) (it : TokenKind) (t : Token) (n : ℕ) (head : Head) (to : ℕ) → has_body sort ≡ true → it ≡ k.LeftBrace → at_body sort it t n head to ≡ Some (body_opened sort head t.span)
+body_taken : (sort : Sort) (it : TokenKind) (t : Token) (n : ℕ) (head : Head) (to : ℕ) → has_body sort ≡ true → it ≡ k.LeftBrace
+    → at_body sort it t n head to ≡ Some (body_opened sort head t.span)
 body_taken FileFunction it t n head to h e = ap (λ z. at_body FileFunction z t n head to) e
 body_taken Method it t n head to h e = ap (λ z. at_body Method z t n head to) e
 body_taken Requirement it t n head to h e = cc
 body_taken Subscript it t n head to h e = ap (λ z. at_body Subscript z t n head to) e
 body_taken Deinit it t n head to h e = ap (λ z. at_body Deinit z t n head to) e
 
-body_refused : (sort : Sort) (it : TokenKind) (t : Token) (n : ℕ) (head : Head) (to : ℕ) → has_body sort ≡ true → (it ≡ k.LeftBrace → ⊥) → at_body sort it t n head to ≡ None
+body_refused : (sort : Sort) (it : TokenKind) (t : Token) (n : ℕ) (head : Head) (to : ℕ) → has_body sort ≡ true → (it ≡ k.LeftBrace → ⊥)
+    → at_body sort it t n head to ≡ None
 body_refused Requirement it t n head to h e = cc
 body_refused FileFunction k.LeftBrace t n head to h e = absurd (e refl)
 body_refused FileFunction _ t n head to h e = refl
@@ -125,7 +137,8 @@ not_varying Deinit head t h = refl
 
 -- ENDS
 
-pub called_done : (home : Home) (head : Head) (variants : List T.Variant) (end : ℕ) → called_in home head variants end ≡ callable_done (callable_of head variants end) home head.start
+pub called_done : (home : Home) (head : Head) (variants : List T.Variant) (end : ℕ)
+    → called_in home head variants end ≡ callable_done (callable_of head variants end) home head.start
 unfolding node.callable
 called_done (InFile decls) head variants end = refl
 called_done (InOwner owner members) head variants end = refl
@@ -158,12 +171,15 @@ unfolding finish
 called_finish (InFile decls) n head to h = cc
 called_finish (InOwner owner members) n head to h = refl
 
-requirement_step : (head : Head) (to : ℕ) (t : Token) (n : ℕ) → head.sort ≡ Requirement → step (ResultRead head to) t n ≡ step (called_in head.home head [] to) t n
+requirement_step : (head : Head) (to : ℕ) (t : Token) (n : ℕ) → head.sort ≡ Requirement
+    → step (ResultRead head to) t n ≡ step (called_in head.home head [] to) t n
 unfolding step
 requirement_step head to t n h = ap (λ s. at_body s t.kind t n head to) h ∙ called_step head.home t n head to
 
-pub requirement_done : (total : ℕ) (head : Head) (to : ℕ) (old : List Token) → head.sort ≡ Requirement → sort_in head.home ≡ Requirement → walk total (ResultRead head to) old ≡ walk total (callable_done (callable_of head [] to) head.home head.start) old
+pub requirement_done : (total : ℕ) (head : Head) (to : ℕ) (old : List Token) → head.sort ≡ Requirement → sort_in head.home ≡ Requirement
+    → walk total (ResultRead head to) old ≡ walk total (callable_done (callable_of head [] to) head.home head.start) old
 unfolding finish
 requirement_done total head to old h g =
-    alike_on total (ResultRead head to) (called_in head.home head [] to) old (λ place. called_finish head.home place head to g) (on_each old (λ t place. requirement_step head to t place h))
+    alike_on total (ResultRead head to) (called_in head.home head [] to) old (λ place. called_finish head.home place head to g)
+    (on_each old (λ t place. requirement_step head to t place h))
     ∙ ap (λ s. walk total s old) (called_done head.home head [] to)

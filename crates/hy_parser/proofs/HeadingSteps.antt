@@ -14,7 +14,8 @@ use Rattle.hy_grammar.specs.Kinds as kind
 use Rattle.hy_grammar.specs.Machine.{step, finish, most_levels, walk}
 use Rattle.hy_grammar.specs.Nodes as node
 use Rattle.hy_parser.specs.Separated.{GoesOn}
-use Rattle.hy_grammar.specs.Stack.{Sort, FileFunction, Method, Requirement, Subscript, Deinit, Head, State, depth_head, FunctionName, GenericWanted, GenericName, BoundWanted, BoundListed, ParamsWanted, ParamsOpened}
+use Rattle.hy_grammar.specs.Stack.{Sort, FileFunction, Method, Requirement, Subscript, Deinit, Head, State, depth_head, FunctionName, GenericWanted}
+use Rattle.hy_grammar.specs.Stack.{GenericName, BoundWanted, BoundListed, ParamsWanted, ParamsOpened}
 use Rattle.hy_phrases.specs.Wanted.{Sees}
 use Rattle.hy_parser.proofs.Separators.{Separates, on_comma, on_close}
 use Rattle.hy_parser.proofs.Follows.{alike_on, on_each}
@@ -31,7 +32,8 @@ generic_wants head = record {
   unfinished = λ place. refl;
 }
 
-pub bound_wants : (head : Head) (name : Name) (bounds : List NameUse) → WantsName (BoundWanted head name bounds) (λ n. BoundListed head name (bounds ++ node.used n.text n.span ∷ []))
+pub bound_wants : (head : Head) (name : Name) (bounds : List NameUse)
+    → WantsName (BoundWanted head name bounds) (λ n. BoundListed head name (bounds ++ node.used n.text n.span ∷ []))
 unfolding step finish
 bound_wants head name bounds = record {
   takes = λ t text place h. rw (h, step) refl;
@@ -39,13 +41,15 @@ bound_wants head name bounds = record {
   unfinished = λ place. refl;
 }
 
-no_generic_name : (it : TokenKind) (head : Head) (name : Name) → (it ≡ k.Colon → ⊥) → (it ≡ k.Comma → ⊥) → (it ≡ k.Greater → ⊥) → at_generic_name it head name ≡ None
+no_generic_name : (it : TokenKind) (head : Head) (name : Name) → (it ≡ k.Colon → ⊥) → (it ≡ k.Comma → ⊥) → (it ≡ k.Greater → ⊥)
+    → at_generic_name it head name ≡ None
 no_generic_name k.Colon head name a b c = absurd (a refl)
 no_generic_name k.Comma head name a b c = absurd (b refl)
 no_generic_name k.Greater head name a b c = absurd (c refl)
 no_generic_name _ head name a b c = refl
 
-pub generic_name_separates : (head : Head) (name : Name) → Separates k.Colon k.Greater (GenericName head name) (GenericWanted (with_generic head name [])) (λ span. ParamsWanted (with_generic head name []))
+pub generic_name_separates : (head : Head) (name : Name)
+    → Separates k.Colon k.Greater (GenericName head name) (GenericWanted (with_generic head name [])) (λ span. ParamsWanted (with_generic head name []))
 unfolding step finish
 generic_name_separates head name = record {
   goes_on = λ t place h. rw (h, step) refl;
@@ -54,13 +58,16 @@ generic_name_separates head name = record {
   unfinished = λ place. refl;
 }
 
-no_bound_listed : (it : TokenKind) (head : Head) (name : Name) (bounds : List NameUse) → (it ≡ k.Ampersand → ⊥) → (it ≡ k.Comma → ⊥) → (it ≡ k.Greater → ⊥) → at_bound_listed it head name bounds ≡ None
+no_bound_listed : (it : TokenKind) (head : Head) (name : Name) (bounds : List NameUse) → (it ≡ k.Ampersand → ⊥) → (it ≡ k.Comma → ⊥) → (it ≡ k.Greater → ⊥)
+    → at_bound_listed it head name bounds ≡ None
 no_bound_listed k.Ampersand head name bounds a b c = absurd (a refl)
 no_bound_listed k.Comma head name bounds a b c = absurd (b refl)
 no_bound_listed k.Greater head name bounds a b c = absurd (c refl)
 no_bound_listed _ head name bounds a b c = refl
 
-pub bounds_separate : (head : Head) (name : Name) (bounds : List NameUse) → Separates k.Ampersand k.Greater (BoundListed head name bounds) (GenericWanted (with_generic head name bounds)) (λ span. ParamsWanted (with_generic head name bounds))
+pub bounds_separate : (head : Head) (name : Name) (bounds : List NameUse)
+    → Separates k.Ampersand k.Greater (BoundListed head name bounds) (GenericWanted (with_generic head name bounds))
+    (λ span. ParamsWanted (with_generic head name bounds))
 unfolding step finish
 bounds_separate head name bounds = record {
   goes_on = λ t place h. rw (h, step) refl;
@@ -69,30 +76,35 @@ bounds_separate head name bounds = record {
   unfinished = λ place. refl;
 }
 
--- `:` behind the name of a type parameter, and `&` behind a bound
-pub colon_of_generic : (head : Head) (name : Name) (t : Token) (place : ℕ) → t.kind ≡ k.Colon → step (GenericName head name) t place ≡ Some (BoundWanted head name [])
+-- `:` after the name of a type parameter, and `&` after a bound
+pub colon_of_generic : (head : Head) (name : Name) (t : Token) (place : ℕ) → t.kind ≡ k.Colon
+    → step (GenericName head name) t place ≡ Some (BoundWanted head name [])
 unfolding step
 colon_of_generic head name t place h = rw (h, step) refl
 
-pub more_bounds : (head : Head) (name : Name) (bounds : List NameUse) (t : Token) (place : ℕ) → t.kind ≡ k.Ampersand → step (BoundListed head name bounds) t place ≡ Some (BoundWanted head name bounds)
+pub more_bounds : (head : Head) (name : Name) (bounds : List NameUse) (t : Token) (place : ℕ) → t.kind ≡ k.Ampersand
+    → step (BoundListed head name bounds) t place ≡ Some (BoundWanted head name bounds)
 unfolding step
 more_bounds head name bounds t place h = rw (h, step) refl
 
--- behind a type parameter
-pub generic_ended : {but : TokenKind} {s : State} {head : Head} (total : ℕ) → Separates but k.Greater s (GenericWanted head) (λ span. ParamsWanted head) → (old new : List Token) (more : Bool) → GoesOn m.Greater old (Ok more) new
+-- after a type parameter
+pub generic_ended : {but : TokenKind} {s : State} {head : Head} (total : ℕ) → Separates but k.Greater s (GenericWanted head) (λ span. ParamsWanted head)
+    → (old new : List Token) (more : Bool) → GoesOn m.Greater old (Ok more) new
     → depth_head head ≤ most_levels → walk total s old ≡ walk total (generic_done more head) new
 generic_ended total w old new true h le = on_comma total w h.1 le
 generic_ended total w old new false h le = on_close total w h.2 le
 
--- a function's name, behind which no type parameters stand
+-- a function's name, after which no type parameters stand
 function_alike : (it : TokenKind) (head : Head) → (it ≡ k.Less → ⊥) → at_function_name it head ≡ kind.left_paren it (ParamsOpened head)
 function_alike k.Less head h = absurd (h refl)
 function_alike k.LeftParen head h = refl
 function_alike _ head h = refl
 
-pub no_generics : (total : ℕ) (head : Head) (old : List Token) → (Sees k.Less old → ⊥) → walk total (FunctionName head) old ≡ walk total (ParamsWanted head) old
+pub no_generics : (total : ℕ) (head : Head) (old : List Token) → (Sees k.Less old → ⊥)
+    → walk total (FunctionName head) old ≡ walk total (ParamsWanted head) old
 unfolding step finish
-no_generics total head old none_such = alike_without total k.Less (FunctionName head) (ParamsWanted head) old none_such (λ t place h. function_alike t.kind head h) (λ place. refl)
+no_generics total head old none_such =
+    alike_without total k.Less (FunctionName head) (ParamsWanted head) old none_such (λ t place h. function_alike t.kind head h) (λ place. refl)
 
 requirement_sort : (sort : Sort) (head : Head) → sort ≡ Requirement → generics_of sort head ≡ None
 requirement_sort FileFunction head h = cc
@@ -106,9 +118,11 @@ requirement_alike k.Less head h = requirement_sort head.sort head h
 requirement_alike k.LeftParen head h = refl
 requirement_alike _ head h = refl
 
-pub requirement_name : (total : ℕ) (head : Head) (old : List Token) → head.sort ≡ Requirement → walk total (FunctionName head) old ≡ walk total (ParamsWanted head) old
+pub requirement_name : (total : ℕ) (head : Head) (old : List Token) → head.sort ≡ Requirement
+    → walk total (FunctionName head) old ≡ walk total (ParamsWanted head) old
 unfolding step finish
-requirement_name total head old h = alike_on total (FunctionName head) (ParamsWanted head) old (λ place. refl) (on_each old (λ t place. requirement_alike t.kind head h))
+requirement_name total head old h =
+    alike_on total (FunctionName head) (ParamsWanted head) old (λ place. refl) (on_each old (λ t place. requirement_alike t.kind head h))
 
 generic_sort : (sort : Sort) (head : Head) → (sort ≡ Requirement → ⊥) → generics_of sort head ≡ Some (GenericWanted head)
 generic_sort FileFunction head h = refl
@@ -117,7 +131,8 @@ generic_sort Requirement head h = absurd (h refl)
 generic_sort Subscript head h = refl
 generic_sort Deinit head h = refl
 
-pub less_of_function : (head : Head) → (head.sort ≡ Requirement → ⊥) → (t : Token) (place : ℕ) → t.kind ≡ k.Less → step (FunctionName head) t place ≡ Some (GenericWanted head)
+pub less_of_function : (head : Head) → (head.sort ≡ Requirement → ⊥) → (t : Token) (place : ℕ) → t.kind ≡ k.Less
+    → step (FunctionName head) t place ≡ Some (GenericWanted head)
 unfolding step
 less_of_function head h t place e = rw (e, step) (generic_sort head.sort head h)
 

@@ -12,7 +12,8 @@ use Rattle.hy_tree.specs.declared.operator.Mode.TheVariants as mode
 use Rattle.hy_grammar.specs.DeclSteps.{at_param, at_params_opened, at_param_first, at_param_read, at_mode, mode_in}
 use Rattle.hy_grammar.specs.Machine.{step, finish, walk}
 use Rattle.hy_parser.specs.Separated.{ahead}
-use Rattle.hy_grammar.specs.Stack.{Head, ParamsOpened, ParamWanted, ParamFirst, ParamUnlabelled, ParamName, ParamColon, ParamRead, ParamsRead, TypeWanted, ForParam}
+use Rattle.hy_grammar.specs.Stack.{Head, ParamsOpened, ParamWanted, ParamFirst, ParamUnlabelled, ParamName, ParamColon, ParamRead, ParamsRead, TypeWanted}
+use Rattle.hy_grammar.specs.Stack.{ForParam}
 use Rattle.hy_phrases.specs.Wanted.{Sees}
 use Rattle.hy_parser.proofs.Follows.{NamesBut, alike_on, none_ahead}
 use Rattle.hy_parser.proofs.Separators.{Separates}
@@ -44,7 +45,8 @@ unlabelled_wants head from = record {
   unfinished = λ place. refl;
 }
 
-pub colon_wanted : (head : Head) (from : ℕ) (label : Label) (name : Name) → Wants k.Colon (ParamName head from label name) (λ span. ParamColon head from label name)
+pub colon_wanted : (head : Head) (from : ℕ) (label : Label) (name : Name)
+    → Wants k.Colon (ParamName head from label name) (λ span. ParamColon head from label name)
 unfolding step finish
 colon_wanted head from label name = record {
   takes = λ t place h. rw (h, step) refl;
@@ -56,7 +58,8 @@ pub same_label : (head : Head) (name : Name) → Follows k.Colon (ParamFirst hea
 unfolding step
 same_label head name = record { takes = λ t place h. rw (h, step) refl }
 
-no_second : (it : TokenKind) (t : Span) (head : Head) (name : Name) → (it ≡ k.Colon → ⊥) → ((text : List ℕ) → it ≡ k.Name text → ⊥) → at_param_first it t head name ≡ None
+no_second : (it : TokenKind) (t : Span) (head : Head) (name : Name) → (it ≡ k.Colon → ⊥) → ((text : List ℕ) → it ≡ k.Name text → ⊥)
+    → at_param_first it t head name ≡ None
 no_second (k.Name text) t head name a b = absurd (b text refl)
 no_second k.Colon t head name a b = absurd (a refl)
 no_second _ t head name a b = refl
@@ -70,17 +73,22 @@ second_names head first = record {
 }
 
 -- a convention, or none
-pub moded : (head : Head) (from : ℕ) (label : Label) (name : Name) (mode : Mode) (t : Token) (place : ℕ) → mode_in head.sort t.kind ≡ Some mode → step (ParamColon head from label name) t place ≡ Some (TypeWanted (ForParam head from label name mode))
+pub moded : (head : Head) (from : ℕ) (label : Label) (name : Name) (mode : Mode) (t : Token) (place : ℕ) → mode_in head.sort t.kind ≡ Some mode
+    → step (ParamColon head from label name) t place ≡ Some (TypeWanted (ForParam head from label name mode))
 unfolding step
 moded head from label name mode t place h = ap (λ o. at_mode o t.kind t.span head from label name) h
 
-unmoded_at : (head : Head) (from : ℕ) (label : Label) (name : Name) (t : Token) (place : ℕ) → mode_in head.sort t.kind ≡ None → step (ParamColon head from label name) t place ≡ step (TypeWanted (ForParam head from label name mode.Let)) t place
+unmoded_at : (head : Head) (from : ℕ) (label : Label) (name : Name) (t : Token) (place : ℕ) → mode_in head.sort t.kind ≡ None
+    → step (ParamColon head from label name) t place ≡ step (TypeWanted (ForParam head from label name mode.Let)) t place
 unfolding step
 unmoded_at head from label name t place h = ap (λ o. at_mode o t.kind t.span head from label name) h
 
-pub unmoded : (total : ℕ) (head : Head) (from : ℕ) (label : Label) (name : Name) (old : List Token) → ahead (mode_in head.sort) old ≡ None → walk total (ParamColon head from label name) old ≡ walk total (TypeWanted (ForParam head from label name mode.Let)) old
+pub unmoded : (total : ℕ) (head : Head) (from : ℕ) (label : Label) (name : Name) (old : List Token) → ahead (mode_in head.sort) old ≡ None
+    → walk total (ParamColon head from label name) old ≡ walk total (TypeWanted (ForParam head from label name mode.Let)) old
 unfolding finish
-unmoded total head from label name old h = alike_on total (ParamColon head from label name) (TypeWanted (ForParam head from label name mode.Let)) old (λ place. refl) (none_ahead (mode_in head.sort) old h (λ t e place. unmoded_at head from label name t place e))
+unmoded total head from label name old h =
+    alike_on total (ParamColon head from label name) (TypeWanted (ForParam head from label name mode.Let)) old (λ place. refl)
+    (none_ahead (mode_in head.sort) old h (λ t e place. unmoded_at head from label name t place e))
 
 -- THE LIST
 
@@ -92,9 +100,11 @@ a_param : (it : TokenKind) (t : Span) (head : Head) → (it ≡ k.RightParen →
 a_param k.RightParen t head h = absurd (h refl)
 a_param _ t head h = refl
 
-pub some_params : (total : ℕ) (head : Head) (old : List Token) → (Sees k.RightParen old → ⊥) → walk total (ParamsOpened head) old ≡ walk total (ParamWanted head) old
+pub some_params : (total : ℕ) (head : Head) (old : List Token) → (Sees k.RightParen old → ⊥)
+    → walk total (ParamsOpened head) old ≡ walk total (ParamWanted head) old
 unfolding step finish
-some_params total head old h = alike_without total k.RightParen (ParamsOpened head) (ParamWanted head) old h (λ t place g. a_param t.kind t.span head g) (λ place. refl)
+some_params total head old h =
+    alike_without total k.RightParen (ParamsOpened head) (ParamWanted head) old h (λ t place g. a_param t.kind t.span head g) (λ place. refl)
 
 no_param_read : (it : TokenKind) (t : Span) (head : Head) → (it ≡ k.Comma → ⊥) → (it ≡ k.RightParen → ⊥) → at_param_read it t head ≡ None
 no_param_read k.Comma t head a b = absurd (a refl)

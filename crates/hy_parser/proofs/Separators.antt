@@ -1,4 +1,4 @@
--- States behind a part of a list.
+-- States after a part of a list.
 use Rattle.std.proofs.Common.{◌≡◌, ◌≤◌, ℕ, Some, None, Err, List, [], ◌∷◌, length, refl, sym, ap, subst, ◌∙◌}
 use Rattle.hy_base.specs.declared.position.Span.{Span}
 use Rattle.hy_lexer.specs.declared.token.Token.{Token}
@@ -11,7 +11,7 @@ use Rattle.hy_grammar.specs.Stack.{State, depth}
 use Rattle.hy_phrases.specs.Wanted.{Sees, Takes, Misses}
 use Rattle.hy_phrases.proofs.Walks.{over, halts, lacks}
 
--- Behind a part, `,` or what ends the list is wanted, where the next token is not of the kind `but`.
+-- After a part, `,` or what ends the list is wanted, where the next token is not of the kind `but`.
 pub record Separates (but close : TokenKind) (s more : State) (done : Span → State) : Type 0 where
   pub goes_on : (t : Token) (place : ℕ) → t.kind ≡ k.Comma → step s t place ≡ Some more
   pub closes : (t : Token) (place : ℕ) → t.kind ≡ close → step s t place ≡ Some (done t.span)
@@ -19,11 +19,14 @@ pub record Separates (but close : TokenKind) (s more : State) (done : Span → S
   pub unfinished : (place : ℕ) → finish s place ≡ None
 
 module _ {but close : TokenKind} {s more : State} {done : Span → State} (total : ℕ) (w : Separates but close s more done) where
-  pub on_comma : {old : List Token} {span : Span} {new : List Token} → Takes k.Comma old span new → depth more ≤ most_levels → walk total s old ≡ walk total more new
+  pub on_comma : {old : List Token} {span : Span} {new : List Token} → Takes k.Comma old span new → depth more ≤ most_levels
+      → walk total s old ≡ walk total more new
   on_comma {old = old} {new = new} h le = over total s more h.token old new h.front (λ place. w.goes_on h.token place h.is) le
 
-  pub on_close : {old : List Token} {span : Span} {new : List Token} → Takes close old span new → depth (done span) ≤ most_levels → walk total s old ≡ walk total (done span) new
-  on_close {old = old} {span = span} {new = new} h le = over total s (done span) h.token old new h.front (λ place. w.closes h.token place h.is ∙ ap (λ x. Some (done x)) h.stands) le
+  pub on_close : {old : List Token} {span : Span} {new : List Token} → Takes close old span new → depth (done span) ≤ most_levels
+      → walk total s old ≡ walk total (done span) new
+  on_close {old = old} {span = span} {new = new} h le = over total s (done span) h.token old new h.front (λ place. w.closes h.token place h.is
+      ∙ ap (λ x. Some (done x)) h.stands) le
 
   stops_unless : (old : List Token) → (Sees but old → ⊥) → (Sees k.Comma old → ⊥) → (Sees close old → ⊥) → walk total s old ≡ Err (Unexpected (length old))
   stops_unless [] a b c = lacks total s [] refl w.unfinished

@@ -25,7 +25,10 @@ use Rattle.hy_parser.specs.declared.heading.Sort.TheVariants as sort
 use Rattle.hy_grammar.specs.DeclSteps.{sort_in, mode_in, head_of, opening}
 use Rattle.hy_grammar.specs.Kinds.{effect_of}
 use Rattle.hy_phrases.specs.Wanted.{Sees}
-use Rattle.hy_grammar.specs.Stack.{Opening, Subject, TypeWord, TraitWord, ConformanceWord, Start, Home, InFile, InOwner, Owner, TraitOwner, ListedOwner, TypeSubject, ConformanceSubject, Sort, FileFunction, Method, Requirement, Subscript, Deinit, Head, PlainBody, VariantBody, State, FieldWord, MemberwiseWord, SubscriptWord, FunctionWord, DeclRead, MemberRead, GenericWanted, ParamsWanted, SetWord, BodyWanted}
+use Rattle.hy_grammar.specs.Stack.{Opening, Subject, TypeWord, TraitWord, ConformanceWord, Start, Home, InFile, InOwner, Owner, TraitOwner, ListedOwner}
+use Rattle.hy_grammar.specs.Stack.{TypeSubject, ConformanceSubject, Sort, FileFunction, Method, Requirement, Subscript, Deinit, Head, PlainBody}
+use Rattle.hy_grammar.specs.Stack.{VariantBody, State, FieldWord, MemberwiseWord, SubscriptWord, FunctionWord, DeclRead, MemberRead, GenericWanted}
+use Rattle.hy_grammar.specs.Stack.{ParamsWanted, SetWord, BodyWanted}
 
 -- SORTS
 
@@ -77,9 +80,20 @@ pub record BelowDeinit : Type 0 where
 -- HEADINGS
 
 abbrev pub headed : (sort : Sort) → Heading → Below sort → Head
-headed sort h x = record { home = x.home; start = x.start; sort = sort; keyword = h.keyword; name = h.name; generics = h.generics; params = map param_of h.params; effect = h.effect; result = option_map type_of h.result }
+headed sort h x = record {
+  home = x.home;
+  start = x.start;
+  sort = sort;
+  keyword = h.keyword;
+  name = h.name;
+  generics = h.generics;
+  params =
+      map param_of h.params;
+  effect = h.effect;
+  result = option_map type_of h.result;
+}
 
--- behind something callable
+-- after something callable
 abbrev pub callable_done : T.Callable → Home → Start → State
 callable_done c (InFile decls) start = DeclRead decls start (T.DeclCallable c) c.at.span.to
 callable_done c (InOwner owner members) start = MemberRead owner members start (T.MemberCallable c) c.at.span.to
@@ -87,7 +101,7 @@ callable_done c (InOwner owner members) start = MemberRead owner members start (
 abbrev pub with_generics : Head → List TypeParam → Head
 with_generics head generics = record head { generics = head.generics ++ generics }
 
--- behind the `,` or `>` behind a type parameter
+-- after the `,` or `>` after a type parameter
 abbrev pub generic_done : Bool → Head → State
 generic_done true head = GenericWanted head
 generic_done false head = ParamsWanted head
@@ -99,13 +113,13 @@ pub record OfSort (sort : Sort) : Type 0 where
 
 -- BODIES
 
--- the effect that may stand behind parameters
+-- the effect that may stand after parameters
 abbrev pub effect_in : Sort → TokenKind → Option Mode
 effect_in Method kind = effect_of kind
 effect_in Requirement kind = effect_of kind
 effect_in _ kind = None
 
--- A method with its effect behind the parameters has one plain body.
+-- A method with its effect after the parameters has one plain body.
 abbrev pub may_vary : Sort → Option Mode → Bool
 may_vary Method None = true
 may_vary Subscript effect = true
@@ -123,7 +137,7 @@ abbrev pub is_subscript : Sort → Bool
 is_subscript Subscript = true
 is_subscript _ = false
 
--- whether a token begins variants, with these behind it
+-- whether a token begins variants, with these after it
 abbrev pub begins_variant : Sort → TokenKind → List Token → Bool
 begins_variant sort k.Let behind = opens_block behind
 begins_variant sort k.Inout behind = opens_block behind
@@ -150,7 +164,7 @@ mode_as role.Param sort kind = mode_in sort kind
 mode_as role.Effect sort kind = effect_in sort kind
 mode_as role.Body sort kind = variant_mode sort kind
 
--- behind the word of a variant
+-- after the word of a variant
 abbrev pub variant_word : Mode → Head → Span → List T.Variant → Span → State
 variant_word mode.Set head brace variants keyword = SetWord head brace variants keyword
 variant_word mode head brace variants keyword = BodyWanted (VariantBody head brace variants keyword mode None)
@@ -183,7 +197,7 @@ pub record MemberAt : Type 0 where
   pub members : List T.Member
   pub start : Start
 
--- the state behind the word that begins a member
+-- the state after the word that begins a member
 abbrev pub word_state : MemberWord → Owner → List T.Member → Start → Span → State
 word_state word.Field owner members start t = FieldWord owner members start
 word_state word.Memberwise owner members start t = MemberwiseWord owner members start
@@ -235,7 +249,7 @@ decl_word k.Trait = Some begun.Trait
 decl_word k.Conformance = Some begun.Conformance
 decl_word _ = None
 
--- the state behind the word that begins a declaration
+-- the state after the word that begins a declaration
 abbrev pub decl_state : DeclWord → List T.Decl → Start → Span → State
 decl_state begun.Function decls start t = FunctionWord (InFile decls) start t
 decl_state begun.Subscript decls start t = SubscriptWord (InFile decls) start t

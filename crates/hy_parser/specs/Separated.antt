@@ -1,4 +1,4 @@
--- What comes of the token behind a part of a list, and of a token of several kinds.
+-- What comes of the token after a part of a list, and of a token of several kinds.
 use Rattle.std.specs.Prelude.{◌≡◌, Bool, true, false, Option, Some, None, List, [], ◌∷◌, Result, Ok, Err}
 use Rattle.hy_base.specs.declared.position.Span.{Span}
 use Rattle.hy_lexer.specs.declared.token.Token.{Token}

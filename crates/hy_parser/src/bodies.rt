@@ -1,7 +1,8 @@
-// What stands behind the parameters of something callable: its effect, its result and its body.
+// What stands after the parameters of something callable: its effect, its result and its body.
 ghost use Rattle.std.specs.Prelude.{◌≡◌, ◌≤◌, ◌<◌, true, length, OnOk};
 ghost use Rattle.hy_parser.specs.Headings as spec;
-ghost use Rattle.hy_parser.specs.ReadsDeclarations.{ReadsResult, ReadsArrow, ReadsEffect, ReadsOutcome, ReadsBody, ReadsPlainBody, ReadsVaryingBody, ReadsVariants, ReadsVariant, ReadsValueName};
+ghost use Rattle.hy_parser.specs.ReadsDeclarations.{ReadsResult, ReadsArrow, ReadsEffect, ReadsOutcome, ReadsBody, ReadsPlainBody, ReadsVaryingBody};
+ghost use Rattle.hy_parser.specs.ReadsDeclarations.{ReadsVariants, ReadsVariant, ReadsValueName};
 
 use crate::declaration_nodes::{callable, plain_variant, variant};
 use crate::heading::{Heading, Role, Sort, has_body, may_vary, take_mode};
@@ -36,7 +37,7 @@ pub fn read_outcome(
     }
 }
 
-// The effect behind the parameters, if there is one.
+// The effect after the parameters, if there is one.
 fn read_effect(tokens: &mut Tokens<'_>, sort: Sort, mut heading: Heading) -> Heading
     ensures reads { ReadsEffect sort heading tokens.old.rest.now result tokens.new.rest.now }
     ensures within { length tokens.new.rest.now ≤ length tokens.old.rest.now }
@@ -122,7 +123,7 @@ fn read_braced(
     read_plain_body(alloc, tokens, inner, sort, heading, brace)
 }
 
-// A body that may be variants, behind its `{`.
+// A body that may be variants, after its `{`.
 fn read_varying_body(
     alloc: Global,
     tokens: &mut Tokens<'_>,
@@ -140,7 +141,7 @@ fn read_varying_body(
     read_plain_body(alloc, tokens, levels, sort, heading, brace)
 }
 
-// Whether variants begin here, behind the `{` around them.
+// Whether variants begin here, after the `{` around them.
 fn begins_variants(tokens: &Tokens<'_>, sort: Sort) -> bool
     ensures { result ≡ spec.begins_variants (spec.sort_of sort) tokens.now.rest.now }
 {
@@ -172,7 +173,7 @@ fn opens_block(tokens: &[Token]) -> bool
     }
 }
 
-/// One plain body, behind its `{`.
+/// One plain body, after its `{`.
 pub fn read_plain_body(
     alloc: Global,
     tokens: &mut Tokens<'_>,
@@ -191,7 +192,7 @@ pub fn read_plain_body(
     Ok(callable(sort, heading, variants, end))
 }
 
-// Variants, behind the `{` around them.
+// Variants, after the `{` around them.
 fn read_variants(
     alloc: Global,
     tokens: &mut Tokens<'_>,
@@ -210,7 +211,7 @@ fn read_variants(
     Ok(callable(sort, heading, variants, close.to))
 }
 
-// A variant behind its word.
+// A variant after its word.
 fn read_variant(
     alloc: Global,
     tokens: &mut Tokens<'_>,
@@ -227,7 +228,7 @@ fn read_variant(
     Ok(variant(mode, keyword, value, block))
 }
 
-// The name of the new value, in parentheses behind `set`.
+// The name of the new value, in parentheses after `set`.
 fn read_value_name(
     alloc: Global,
     tokens: &mut Tokens<'_>,

@@ -1,4 +1,4 @@
-// Functions, methods, requirements, subscripts and `deinit`, behind their keyword.
+// Functions, methods, requirements, subscripts and `deinit`, after their keyword.
 ghost use Rattle.std.specs.Prelude.{◌≡◌, ◌≤◌, length};
 ghost use Rattle.hy_parser.specs.Headings.{sort_of};
 ghost use Rattle.hy_parser.specs.ReadsDeclarations.{ReadsOpened, ReadsFunction, ReadsSubscript, ReadsNamedSubscript, ReadsDeinit};
@@ -12,7 +12,7 @@ use hy_phrases::{Mark, Stop, Tokens};
 use hy_tree::Callable;
 use std::alloc::Global;
 
-/// What stands behind `fun`.
+/// What stands after `fun`.
 pub fn read_function(
     alloc: Global,
     tokens: &mut Tokens<'_>,
@@ -29,7 +29,7 @@ pub fn read_function(
     read_opened(alloc, tokens, levels, sort, opened)
 }
 
-/// What stands behind `subscript`. One of the file has a name.
+/// What stands after `subscript`. One of the file has a name.
 pub fn read_subscript(
     alloc: Global,
     tokens: &mut Tokens<'_>,
@@ -50,7 +50,7 @@ pub fn read_subscript(
     read_named_subscript(alloc, tokens, levels, keyword)
 }
 
-// What stands behind `subscript`, where a name does.
+// What stands after `subscript`, where a name does.
 fn read_named_subscript(
     alloc: Global,
     tokens: &mut Tokens<'_>,
@@ -65,7 +65,7 @@ fn read_named_subscript(
     read_opened(alloc, tokens, levels, Sort::Subscript, heading)
 }
 
-// The parameters and what stands behind them.
+// The parameters and what stands after them.
 fn read_opened(
     alloc: Global,
     tokens: &mut Tokens<'_>,
@@ -82,7 +82,7 @@ fn read_opened(
     read_body(alloc, tokens, levels, sort, whole)
 }
 
-/// What stands behind `deinit`.
+/// What stands after `deinit`.
 pub fn read_deinit(
     alloc: Global,
     tokens: &mut Tokens<'_>,

@@ -1,6 +1,7 @@
 // Nodes of declarations, made of their parts.
 ghost use Rattle.std.specs.Prelude.{◌≡◌, map};
-ghost use Rattle.hy_tree.specs.Denotes.{param_of, type_of, block_of, variant_of, callable_of, member_kind_of, member_of, product_of, trait_of, conform_of, decl_kind_of, decl_of, program_of};
+ghost use Rattle.hy_tree.specs.Denotes.{param_of, type_of, block_of, variant_of, callable_of, member_kind_of, member_of, product_of, trait_of, conform_of};
+ghost use Rattle.hy_tree.specs.Denotes.{decl_kind_of, decl_of, program_of};
 ghost use Rattle.hy_parser.specs.Headings.{sort_of, headed, Below};
 ghost use Rattle.hy_grammar.specs.Nodes as node;
 ghost use Rattle.hy_grammar.specs.StmtSteps as step;
@@ -55,7 +56,7 @@ fn plain_mode(sort: Sort, effect: Option<Mode>) -> Mode
     }
 }
 
-/// A body behind its keyword.
+/// A body after its keyword.
 pub fn variant(mode: Mode, keyword: Span, value: Option<Name>, block: Block) -> Variant
     ensures { variant_of result ≡ node.variant mode keyword value (block_of block) }
 {
@@ -122,7 +123,7 @@ pub fn member(public: bool, kind: MemberKind, tokens: u32, from: u32, to: u32) -
     }
 }
 
-/// A type behind its keyword, up to the `}` of its members.
+/// A type after its keyword, up to the `}` of its members.
 #[tactic(auto, unfolding(hy_grammar::specs::Nodes::product))]
 pub fn product(
     keyword: Span,
@@ -145,7 +146,7 @@ pub fn product(
     }
 }
 
-/// A trait behind its keyword, up to the `}` of its members.
+/// A trait after its keyword, up to the `}` of its members.
 pub fn trait_def(keyword: Span, name: Name, members: Items<Member>, close: Span) -> TraitDef
     ensures { trait_of result ≡ node.trait keyword name (map member_of members) close }
 {
@@ -160,7 +161,7 @@ pub fn trait_def(keyword: Span, name: Name, members: Items<Member>, close: Span)
     }
 }
 
-/// A conformance behind its keyword, up to the `}` of its members.
+/// A conformance after its keyword, up to the `}` of its members.
 #[tactic(auto, unfolding(hy_grammar::specs::Nodes::conformance))]
 pub fn conformance(
     keyword: Span,

@@ -32,7 +32,7 @@ pub fn read_program(alloc: Global, all: &[Token]) -> Result<Program, Stop>
     Ok(program(decls, to))
 }
 
-// Where the file ends behind a declaration that ends there, with the `;` behind it.
+// Where the file ends after a declaration that ends there, with the `;` after it.
 fn read_end(tokens: &mut Tokens<'_>, before: u32) -> u32
     ensures reads { ReadsEnd before tokens.old.rest.now result tokens.new.rest.now }
     ensures within { length tokens.new.rest.now ≤ length tokens.old.rest.now }
@@ -57,7 +57,7 @@ fn read_decl(alloc: Global, tokens: &mut Tokens<'_>, first: &Token) -> Result<De
     Ok(decl(public, kind, count, first.span.from, to))
 }
 
-// What a declaration is, behind `public`, and where it ends.
+// What a declaration is, after `public`, and where it ends.
 fn read_decl_kind(alloc: Global, tokens: &mut Tokens<'_>) -> Result<(DeclKind, u32), Stop>
     ensures reads { ReadsDeclKind tokens.old.rest.now result tokens.new.rest.now }
     ensures within { length tokens.new.rest.now ≤ length tokens.old.rest.now }
@@ -83,7 +83,7 @@ fn called(callable: Callable) -> (DeclKind, u32)
     (DeclKind::Callable(callable), to)
 }
 
-// What stands behind `type`.
+// What stands after `type`.
 fn read_product(
     alloc: Global,
     tokens: &mut Tokens<'_>,
@@ -99,7 +99,7 @@ fn read_product(
     Ok((DeclKind::Product(made), close.to))
 }
 
-// What stands behind `trait`.
+// What stands after `trait`.
 fn read_trait(
     alloc: Global,
     tokens: &mut Tokens<'_>,
@@ -115,7 +115,7 @@ fn read_trait(
     Ok((DeclKind::Trait(made), close.to))
 }
 
-// What stands behind `conformance`.
+// What stands after `conformance`.
 fn read_conformance(
     alloc: Global,
     tokens: &mut Tokens<'_>,

@@ -29,7 +29,7 @@ pub fn read_generics(
     }
 }
 
-// The type parameters behind `<`, with the `>`.
+// The type parameters after `<`, with the `>`.
 fn read_type_params(
     alloc: Global,
     tokens: &mut Tokens<'_>,
@@ -48,7 +48,7 @@ fn read_type_params(
     }
 }
 
-// A type parameter, and whether the token behind it is `,` and not `>`.
+// A type parameter, and whether the token after it is `,` and not `>`.
 fn read_generic(alloc: Global, tokens: &mut Tokens<'_>) -> Result<(TypeParam, bool), Stop>
     ensures reads { ReadsGeneric tokens.old.rest.now result tokens.new.rest.now }
     ensures within { length tokens.new.rest.now ≤ length tokens.old.rest.now }
@@ -63,7 +63,7 @@ fn read_generic(alloc: Global, tokens: &mut Tokens<'_>) -> Result<(TypeParam, bo
     Ok((TypeParam { name, bounds }, more))
 }
 
-// The bounds of a type parameter behind its `:`, and whether the token behind them is `,` and not `>`.
+// The bounds of a type parameter after its `:`, and whether the token after them is `,` and not `>`.
 fn read_bounds(
     alloc: Global,
     tokens: &mut Tokens<'_>,
@@ -83,7 +83,7 @@ fn read_bounds(
     Ok((TypeParam { name, bounds }, more))
 }
 
-/// Takes `,`, behind which a list goes on, or the token that ends it: whether it goes on.
+/// Takes `,`, after which a list goes on, or the token that ends it: whether it goes on.
 pub fn goes_on(tokens: &mut Tokens<'_>, close: Mark) -> Result<bool, Stop>
     ensures token { GoesOn close tokens.old.rest.now result tokens.new.rest.now }
     ensures within { length tokens.new.rest.now ≤ length tokens.old.rest.now }

@@ -85,7 +85,7 @@ impl Heading {
 #[derive(Clone, Copy, Debug, PartialEq, Eq)]
 pub enum Role {
     Param,
-    /// `self`, behind the parameters
+    /// `self`, after the parameters
     Effect,
     /// a variant
     Body,
@@ -123,7 +123,7 @@ fn mode_in(sort: Sort, kind: &TokenKind) -> Option<Mode>
     }
 }
 
-// The convention that a token of this kind is behind parameters.
+// The convention that a token of this kind is after parameters.
 fn effect_in(sort: Sort, kind: &TokenKind) -> Option<Mode>
     ensures { result ≡ spec.effect_in (spec.sort_of sort) kind.now }
 {
@@ -144,7 +144,7 @@ pub fn has_body(sort: Sort) -> bool
     }
 }
 
-/// Whether a body may be variants: a method with its effect behind the parameters has one plain body.
+/// Whether a body may be variants: a method with its effect after the parameters has one plain body.
 pub fn may_vary(sort: Sort, effect: Option<Mode>) -> bool
     ensures { result ≡ spec.may_vary (spec.sort_of sort) effect }
 {

@@ -15,7 +15,7 @@ use hy_tree::{Callable, Member, MemberKind};
 use sqlite_items::Items;
 use std::alloc::Global;
 
-/// The members behind their `{`, and the `}`.
+/// The members after their `{`, and the `}`.
 pub fn read_members(
     alloc: Global,
     tokens: &mut Tokens<'_>,
@@ -73,8 +73,8 @@ pub fn take_public(tokens: &mut Tokens<'_>) -> bool
     }
 }
 
-/// How many tokens were taken since so many were left. That there are 2^32 or more wants some hundred GiB: it is answered as
-/// want of memory.
+/// How many tokens were taken since so many were left. A count of 2^32 or more, whose tokens would take some hundred GiB, is
+/// answered as out of memory.
 pub fn count_taken(before: usize, tokens: &Tokens<'_>) -> Result<u32, Stop>
     requires { length tokens.now.rest.now ≤ before }
     ensures count { IfOk result (λ count. count ≡ before - length tokens.now.rest.now) }
@@ -86,7 +86,7 @@ pub fn count_taken(before: usize, tokens: &Tokens<'_>) -> Result<u32, Stop>
     }
 }
 
-// What a member is, behind `public`, and where it ends.
+// What a member is, after `public`, and where it ends.
 fn read_member_kind(
     alloc: Global,
     tokens: &mut Tokens<'_>,
@@ -116,7 +116,7 @@ fn called(callable: Callable) -> (MemberKind, u32)
     (MemberKind::Callable(callable), to)
 }
 
-// A field behind `var`.
+// A field after `var`.
 fn read_field(alloc: Global, tokens: &mut Tokens<'_>) -> Result<(MemberKind, u32), Stop>
     ensures reads { ReadsField tokens.old.rest.now result tokens.new.rest.now }
     ensures within { length tokens.new.rest.now ≤ length tokens.old.rest.now }
@@ -128,7 +128,7 @@ fn read_field(alloc: Global, tokens: &mut Tokens<'_>) -> Result<(MemberKind, u32
     Ok((MemberKind::Field(name, written), to))
 }
 
-// `init` behind `memberwise`.
+// `init` after `memberwise`.
 fn read_memberwise(tokens: &mut Tokens<'_>) -> Result<(MemberKind, u32), Stop>
     ensures reads { ReadsMemberwise tokens.old.rest.now result tokens.new.rest.now }
     ensures within { length tokens.new.rest.now ≤ length tokens.old.rest.now }

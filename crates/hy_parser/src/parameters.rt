@@ -8,7 +8,7 @@ use hy_phrases::{Mark, Stop, Tokens, read_type};
 use hy_tree::{Label, Mode, Name, Param};
 use std::alloc::Global;
 
-/// The parameters behind their `(`, with the `)`. So many levels may still be opened between them.
+/// The parameters after their `(`, with the `)`. So many levels may still be opened between them.
 pub fn read_params(
     alloc: Global,
     tokens: &mut Tokens<'_>,
@@ -65,7 +65,7 @@ fn read_param_name(alloc: Global, tokens: &mut Tokens<'_>) -> Result<(u32, Label
     read_second_name(alloc, tokens, first)
 }
 
-// The name of a parameter behind `_`, with the `:`.
+// The name of a parameter after `_`, with the `:`.
 fn read_unlabelled(
     alloc: Global,
     tokens: &mut Tokens<'_>,
@@ -79,7 +79,7 @@ fn read_unlabelled(
     Ok((from, Label::Nothing, name))
 }
 
-// What stands behind the first name of a parameter: its own name, if the first is a label, and the `:`.
+// What stands after the first name of a parameter: its own name, if the first is a label, and the `:`.
 fn read_second_name(
     alloc: Global,
     tokens: &mut Tokens<'_>,

@@ -1,8 +1,9 @@
 // The parser.
-ghost use Rattle.std.specs.Prelude.{◌≡◌, ◌-◌, length, drop};
+ghost use Rattle.std.specs.Prelude.{◌≡◌, ◌-◌, IfOk, length, drop};
 ghost use Rattle.hy_base.specs.Answers.{Answers};
 ghost use Rattle.hy_lexer.specs.Spans.{AreApart};
 ghost use Rattle.hy_tree.specs.Denotes.{program_of};
+ghost use Rattle.hy_tree.specs.Preorder.{IsNumbered};
 ghost use Rattle.hy_grammar.specs.Parses as spec;
 ghost use Rattle.hy_grammar.specs.Parses.{Breaks, HasTree, unexpected_at, too_deep_at};
 ghost use Rattle.hy_parser.specs.ReadsDeclarations.{refused};
@@ -15,10 +16,12 @@ use hy_tree::{Program, number};
 use std::alloc::Global;
 
 /// The tree of a source of `size` bytes, from its tokens, with its nodes numbered in preorder; or the first of the rules P1 and
-/// P2 that it breaks. `docs/GRAMMAR.md` has the grammar, and when which of the two is told.
+/// P2 that it breaks. There are fewer than 2^32 nodes, so that a table by node has a place for each. `docs/GRAMMAR.md` has
+/// the grammar, and says when which of the two rules is broken.
 pub fn parse(alloc: Global, tokens: &[Token], size: u32) -> Result<Program, Fault>
     requires { AreApart 0 tokens.now size }
-    ensures { Answers (Breaks tokens.now size) (λ tree. HasTree tokens.now (program_of tree)) result }
+    ensures tree { Answers (Breaks tokens.now size) (λ tree. HasTree tokens.now (program_of tree)) result }
+    ensures numbered { IfOk result (λ tree. IsNumbered (program_of tree)) }
 {
     match read_program(alloc, tokens) {
         Ok(plain) => {

@@ -127,7 +127,7 @@ pub fn if_else(
     })
 }
 
-/// `.NAME` behind a primary expression.
+/// `.NAME` after a primary expression.
 #[tactic(auto, using(hy_tree::proofs::Equations::step_variants, crate::proofs::Widened::expr_at), unfolding(hy_grammar::specs::Nodes::member_step))]
 pub fn member_step(primary: &Expr, text: Text, token: Span) -> Step
     ensures { step_of result ≡ node.member_step (expr_of primary.now) text token }
@@ -139,7 +139,7 @@ pub fn member_step(primary: &Expr, text: Text, token: Span) -> Step
     }
 }
 
-/// `.NUMBER` behind a primary expression.
+/// `.NUMBER` after a primary expression.
 #[tactic(auto, using(hy_tree::proofs::Equations::step_variants, crate::proofs::Widened::expr_at), unfolding(hy_grammar::specs::Nodes::part_step))]
 pub fn part_step(primary: &Expr, value: i64, token: Span) -> Step
     ensures { step_of result ≡ node.part_step (expr_of primary.now) value token }
@@ -151,7 +151,7 @@ pub fn part_step(primary: &Expr, value: i64, token: Span) -> Step
     }
 }
 
-/// Arguments in parentheses behind a primary expression.
+/// Arguments in parentheses after a primary expression.
 #[tactic(auto, using(hy_tree::proofs::Equations::step_variants, crate::proofs::Widened::expr_at), unfolding(hy_grammar::specs::Nodes::call_step))]
 pub fn call_step(primary: &Expr, args: Items<Arg>, close: Span) -> Step
     ensures { step_of result ≡ node.call_step (expr_of primary.now) (map arg_of args) close }
@@ -163,7 +163,7 @@ pub fn call_step(primary: &Expr, args: Items<Arg>, close: Span) -> Step
     }
 }
 
-/// Arguments in brackets behind a primary expression.
+/// Arguments in brackets after a primary expression.
 #[tactic(auto, using(hy_tree::proofs::Equations::step_variants, crate::proofs::Widened::expr_at), unfolding(hy_grammar::specs::Nodes::index_step))]
 pub fn index_step(primary: &Expr, args: Items<Arg>, close: Span) -> Step
     ensures { step_of result ≡ node.index_step (expr_of primary.now) (map arg_of args) close }
@@ -175,7 +175,7 @@ pub fn index_step(primary: &Expr, args: Items<Arg>, close: Span) -> Step
     }
 }
 
-/// A primary expression with the steps behind it, the last of which ends there.
+/// A primary expression with the steps after it, the last of which ends there.
 #[tactic(auto, using(hy_tree::proofs::Equations::expr_variants, crate::proofs::Widened::expr_at), unfolding(hy_grammar::specs::Nodes::postfix))]
 pub fn postfix(
     alloc: Global,

@@ -4,7 +4,7 @@ ghost use Rattle.hy_phrases.specs.declared.stop.Stop.TheVariants.{NoMemory};
 
 use std::alloc::{AllocError, AllocFailed};
 
-/// Why a part is not read. What a place among the tokens is, is told by the number of tokens that are left there.
+/// Why a part is not read. A place among the tokens is given by the number of tokens that are left there.
 #[derive(Clone, Copy, Debug, PartialEq, Eq)]
 pub enum Stop {
     NoMemory,

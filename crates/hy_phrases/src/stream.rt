@@ -55,7 +55,8 @@ impl<'a> Tokens<'a> {
 
     /// Takes the next token, if it is this one.
     pub fn take(&mut self, mark: Mark) -> Option<Span>
-        ensures token { MatchOption result ((Sees (spec.kind_of mark) self.old.rest.now → ⊥) × (self.new.rest.now ≡ self.old.rest.now)) (λ span. Takes (spec.kind_of mark) self.old.rest.now span self.new.rest.now) }
+        ensures token { MatchOption result ((Sees (spec.kind_of mark) self.old.rest.now → ⊥)
+            × (self.new.rest.now ≡ self.old.rest.now)) (λ span. Takes (spec.kind_of mark) self.old.rest.now span self.new.rest.now) }
         ensures within { length self.new.rest.now ≤ length self.old.rest.now }
         ensures progress { OnSome result (length self.new.rest.now < length self.old.rest.now) }
     {
@@ -70,7 +71,8 @@ impl<'a> Tokens<'a> {
 
     /// Takes the next token, which is to be this one.
     pub fn want(&mut self, mark: Mark) -> Result<Span, Stop>
-        ensures token { MatchResult result (λ span. Takes (spec.kind_of mark) self.old.rest.now span self.new.rest.now) (λ e. Misses (spec.kind_of mark) self.old.rest.now e) }
+        ensures token { MatchResult result (λ span. Takes (spec.kind_of mark) self.old.rest.now span self.new.rest.now)
+            (λ e. Misses (spec.kind_of mark) self.old.rest.now e) }
         ensures within { length self.new.rest.now ≤ length self.old.rest.now }
         ensures progress { OnOk result (length self.new.rest.now < length self.old.rest.now) }
     {
@@ -80,7 +82,7 @@ impl<'a> Tokens<'a> {
         }
     }
 
-    /// How many levels are left behind the next token, which opens one.
+    /// How many levels are left after the next token, which opens one.
     pub fn deeper(&self, levels: usize) -> Result<usize, Stop>
         ensures { MatchResult result (λ inner. inner + 1 ≡ levels) (λ e. (levels ≡ 0) × (e ≡ Stop.TooDeep (length self.now.rest.now))) }
     {
@@ -92,7 +94,8 @@ impl<'a> Tokens<'a> {
 
     /// Takes the next token, which is to be this one and opens a level; with how many levels are left then.
     pub fn open(&mut self, mark: Mark, levels: usize) -> Result<(Span, usize), Stop>
-        ensures token { MatchResult result (λ opened. Takes (spec.kind_of mark) self.old.rest.now opened.0 self.new.rest.now × (opened.1 + 1 ≡ levels)) (λ e. OpensNone (spec.kind_of mark) levels self.old.rest.now e) }
+        ensures token { MatchResult result (λ opened. Takes (spec.kind_of mark) self.old.rest.now opened.0 self.new.rest.now
+            × (opened.1 + 1 ≡ levels)) (λ e. OpensNone (spec.kind_of mark) levels self.old.rest.now e) }
         ensures within { length self.new.rest.now ≤ length self.old.rest.now }
         ensures progress { OnOk result (length self.new.rest.now < length self.old.rest.now) }
     {

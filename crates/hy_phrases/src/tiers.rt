@@ -67,7 +67,7 @@ fn join(alloc: Global, tier: Option<OpenChain>, operand: Expr) -> Result<Expr, A
     })
 }
 
-/// The chain that goes on behind this operand.
+/// The chain that goes on after this operand.
 fn extend(
     alloc: Global,
     tier: Option<OpenChain>,
@@ -103,7 +103,7 @@ fn close(alloc: Global, tier: &mut Option<OpenChain>, operand: Expr) -> Result<E
     join(alloc, tier.take(), operand)
 }
 
-/// Goes on with the chain of a level behind this operand, or opens it.
+/// Goes on with the chain of a level after this operand, or opens it.
 fn go_on(
     alloc: Global,
     tier: &mut Option<OpenChain>,
@@ -150,7 +150,7 @@ impl Tiers {
         close(alloc, &mut tiers.disjunction, operand)
     }
 
-    /// An operator behind this operand. A comparison has one operator.
+    /// An operator after this operand. A comparison has one operator.
     pub fn operate(
         self,
         alloc: Global,

@@ -33,7 +33,7 @@ impl<F: Fn(Global, &mut Tokens<'_>, usize) -> Result<TypeExp, Stop>> Types<F> {
         (self.nested)(self.alloc, tokens, levels)
     }
 
-    /// `Array<type>`, behind its word.
+    /// `Array<type>`, after its word.
     fn array(&self, tokens: &mut Tokens<'_>, word: Span) -> Result<TypeExp, Stop>
         requires { NestsTypes self.now.levels (F.pre self.now.nested) (F.post self.now.nested) }
         ensures reads { IsArrayType self.now.levels word tokens.old.rest.now result tokens.new.rest.now }
@@ -45,7 +45,7 @@ impl<F: Fn(Global, &mut Tokens<'_>, usize) -> Result<TypeExp, Stop>> Types<F> {
         Ok(array_type(self.alloc, word, element, close)?)
     }
 
-    /// Types in parentheses, behind the `(`.
+    /// Types in parentheses, after the `(`.
     fn tuple(&self, tokens: &mut Tokens<'_>, bracket: Span, levels: usize) -> Result<TypeExp, Stop>
         requires fewer { levels < self.now.levels }
         requires nests { NestsTypes self.now.levels (F.pre self.now.nested) (F.post self.now.nested) }

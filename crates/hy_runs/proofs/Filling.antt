@@ -1,4 +1,4 @@
--- What was taken of the input for a line, by what came behind its bytes.
+-- What was taken of the input for a line, by what came after its bytes.
 use Rattle.std.proofs.Common.{◌≡◌, ◌≢◌, ◌<◌, ◌≤◌, ◌+◌, ℕ, List, [], ◌∷◌, ◌++◌, length, Option, Some, None, Ok, Err, refl, subst, length-append, arith}
 use Rattle.hy_base.specs.declared.streams.Failed.{Failed}
 use Rattle.hy_base.specs.Outside.{StillTells}
@@ -8,13 +8,14 @@ use Rattle.hy_runs.specs.Runs.{AllTaken}
 use Rattle.hy_runs.specs.Taking.{Fills, Filling}
 use Rattle.hy_runs.proofs.Splitting.{all_in_line, splits_line, splits_last, splits_long}
 use Rattle.hy_runs.proofs.Tellings.{took_none, took_more, took_all, at_end, took_so_far}
-use Rattle.hy_lines.proofs.Numerals.{differs}
+use Rattle.hy_base.proofs.Numerals.{differs}
 
 pub nothing_taken : (old : Option Tape) (bytes : List ℕ) → bytes ≡ [] → Filling old old bytes 0
 nothing_taken old bytes e = rw e (record { size = refl; in_line = tt; told = took_none old })
 
 module _ (old mid new : Option Tape) (bytes : List ℕ) (count : ℕ) (so_far : Filling old mid bytes count) where
-  pub one_more : (more : List ℕ) (byte : ℕ) → more ≡ bytes ++ byte ∷ [] → byte ≢ 10 → StillTells mid new (Takes (Ok (Some byte))) → Filling old new more (count + 1)
+  pub one_more : (more : List ℕ) (byte : ℕ) → more ≡ bytes ++ byte ∷ [] → byte ≢ 10 → StillTells mid new (Takes (Ok (Some byte)))
+      → Filling old new more (count + 1)
   one_more more byte e other taken = rw e (record {
     size = omega (arith, length-append {A = ℕ}, so_far.size);
     in_line = all_in_line bytes byte so_far.in_line (differs byte 10 other);

@@ -18,7 +18,8 @@ reads_last : (bytes : List ℕ) → got_last false bytes ≡ got (number_of (tri
 reads_last [] = refl
 reads_last (b ∷ bytes) = refl
 
-pub at_input : (old new : Option Tape) (bytes : List ℕ) (found : Option ℤ) → Fills old new bytes (Ok line_end.Input) → found ≡ number_of (trimmed bytes) → IsRead old new (reader false) (reader true) (Ok found)
+pub at_input : (old new : Option Tape) (bytes : List ℕ) (found : Option ℤ) → Fills old new bytes (Ok line_end.Input) → found ≡ number_of (trimmed bytes)
+    → IsRead old new (reader false) (reader true) (Ok found)
 at_input old new bytes found filled is = record {
   taken = bytes;
   told = filled.0.told;

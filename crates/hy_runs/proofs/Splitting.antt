@@ -1,5 +1,6 @@
--- How bytes without a line feed are split, by what comes behind them.
-use Rattle.std.proofs.Common.{◌≡◌, ◌<◌, ℕ, zero, suc, ◌+◌, ◌-◌, ◌==◌, Bool, false, List, [], ◌∷◌, ◌++◌, length, if◌then◌else◌, refl, sym, ap, ◌∙◌, zero-add, suc-add, append-nil, arith}
+-- How bytes without a line feed are split, by what comes after them.
+use Rattle.std.proofs.Common.{◌≡◌, ◌<◌, ℕ, zero, suc, ◌+◌, ◌-◌, ◌==◌, Bool, false, List, [], ◌∷◌, ◌++◌, length, if◌then◌else◌, refl, sym, ap, ◌∙◌, zero-add}
+use Rattle.std.proofs.Common.{suc-add, append-nil, arith}
 use Rattle.std.specs.List.{AllByRecursion}
 use Rattle.hy_base.specs.Lines.{Split, Line, Last, TooLong, ahead, split_line}
 use Rattle.hy_runs.specs.Taking.{IsInLine}
@@ -19,7 +20,9 @@ goes_on b bytes is_feed x y feed same = rw feed (ap (ahead b) same)
 splits : (n : ℕ) (bytes rest : List ℕ) → AllByRecursion IsInLine bytes → split_line (length bytes + n) (bytes ++ rest) ≡ all_ahead bytes (split_line n rest)
 unfolding all_ahead
 splits n [] rest all = rw zero-add refl
-splits n (b ∷ bytes) rest all = rw suc-add (goes_on b (bytes ++ rest) (b == 10) (split_line (length bytes + n) (bytes ++ rest)) (all_ahead bytes (split_line n rest)) all.0 (splits n bytes rest all.1))
+splits n (b ∷ bytes) rest all =
+    rw suc-add (goes_on b (bytes ++ rest) (b == 10) (split_line (length bytes + n) (bytes ++ rest)) (all_ahead bytes (split_line n rest)) all.0
+    (splits n bytes rest all.1))
 
 line_ahead : (bytes : List ℕ) → all_ahead bytes (Line [] []) ≡ Line bytes []
 unfolding all_ahead
@@ -36,13 +39,15 @@ unfolding all_ahead
 long_ahead [] = refl
 long_ahead (b ∷ bytes) = ap (ahead b) (long_ahead bytes)
 
-splits_at : (most n : ℕ) (bytes rest : List ℕ) → AllByRecursion IsInLine bytes → most ≡ length bytes + n → split_line most (bytes ++ rest) ≡ all_ahead bytes (split_line n rest)
+splits_at : (most n : ℕ) (bytes rest : List ℕ) → AllByRecursion IsInLine bytes → most ≡ length bytes + n
+    → split_line most (bytes ++ rest) ≡ all_ahead bytes (split_line n rest)
 splits_at most n bytes rest all e = ap (λ m. split_line m (bytes ++ rest)) e ∙ splits n bytes rest all
 
 -- a line feed
 pub splits_line : (most : ℕ) (bytes : List ℕ) → AllByRecursion IsInLine bytes → length bytes < most → split_line most (bytes ++ 10 ∷ []) ≡ Line bytes []
 splits_line most bytes all room =
-    let e : most ≡ length bytes + suc (most - suc (length bytes)) = omega arith in splits_at most (suc (most - suc (length bytes))) bytes (10 ∷ []) all e ∙ line_ahead bytes
+    let e : most ≡ length bytes + suc (most - suc (length bytes)) = omega arith in splits_at most (suc (most - suc (length bytes))) bytes (10 ∷ []) all e
+    ∙ line_ahead bytes
 
 -- nothing, where there is room for more
 pub splits_last : (most : ℕ) (bytes : List ℕ) → AllByRecursion IsInLine bytes → length bytes < most → split_line most bytes ≡ Last bytes

@@ -9,27 +9,29 @@ use Rattle.hy_runs.specs.Taking.{IsAtEnd}
 
 -- OUTPUT
 
--- nothing is told to be written
+-- nothing is known to be written
 pub told_none : (old : Option (List ℕ)) → StillTells old old (Appends [])
 told_none None = tt
 told_none (Some bytes) = sym (append-nil bytes)
 
 -- what is written after something else
-pub told_more : (old mid new : Option (List ℕ)) (xs ys : List ℕ) → StillTells old mid (Appends xs) → StillTells mid new (Appends ys) → StillTells old new (Appends (xs ++ ys))
+pub told_more : (old mid new : Option (List ℕ)) (xs ys : List ℕ) → StillTells old mid (Appends xs) → StillTells mid new (Appends ys)
+    → StillTells old new (Appends (xs ++ ys))
 told_more old mid None xs ys a b = tt
 told_more old None (Some new) xs ys a b = absurd b
 told_more None (Some mid) (Some new) xs ys a b = absurd a
 told_more (Some old) (Some mid) (Some new) xs ys a b = rw (b, a) (append_assoc old xs ys)
 
--- some front of a line is written, also where nothing is told
-pub some_front : (old new : Option (List ℕ)) (line : List ℕ) → StillTells old new (λ old new. (k : ℕ) × (new ≡ old ++ take k line)) → (k : ℕ) × StillTells old new (Appends (take k line))
+-- some front of a line is written, also where nothing is known
+pub some_front : (old new : Option (List ℕ)) (line : List ℕ) → StillTells old new (λ old new. (k : ℕ) × (new ≡ old ++ take k line)) → (k : ℕ)
+    × StillTells old new (Appends (take k line))
 some_front old None line h = (0, tt)
 some_front None (Some new) line h = absurd h
 some_front (Some old) (Some new) line h = h
 
 -- INPUT
 
--- nothing is told to be taken
+-- nothing is known to be taken
 pub took_none : (old : Option Tape) → StillTells old old (AllTaken [])
 took_none None = tt
 took_none (Some tape) = record { left = refl; taken = sym (append-nil tape.taken) }
@@ -46,20 +48,23 @@ took_more (Some old) (Some mid) (Some new) bytes byte a b = record {
 }
 
 -- no byte more is there
-pub took_all : (old mid new : Option Tape) (bytes : List ℕ) → StillTells old mid (AllTaken bytes) → StillTells mid new (Takes (Ok None)) → StillTells old new (AllTaken bytes)
+pub took_all : (old mid new : Option Tape) (bytes : List ℕ) → StillTells old mid (AllTaken bytes) → StillTells mid new (Takes (Ok None))
+    → StillTells old new (AllTaken bytes)
 took_all old mid None bytes a b = tt
 took_all old None (Some new) bytes a b = absurd b
 took_all None (Some mid) (Some new) bytes a b = absurd a
 took_all (Some old) (Some mid) (Some new) bytes a b = subst (AllTaken bytes old) (sym b.1) a
 
-pub at_end : (old mid new : Option Tape) (bytes : List ℕ) → StillTells old mid (AllTaken bytes) → StillTells mid new (Takes (Ok None)) → StillTells old new IsAtEnd
+pub at_end : (old mid new : Option Tape) (bytes : List ℕ) → StillTells old mid (AllTaken bytes) → StillTells mid new (Takes (Ok None))
+    → StillTells old new IsAtEnd
 at_end old mid None bytes a b = tt
 at_end old None (Some new) bytes a b = absurd b
 at_end None (Some mid) (Some new) bytes a b = absurd a
 at_end (Some old) (Some mid) (Some new) bytes a b = ap (λ tape. tape.left) b.1 ∙ b.0
 
 -- the next byte was not given
-pub took_so_far : (old mid new : Option Tape) (bytes : List ℕ) (failed : Failed) → StillTells old mid (AllTaken bytes) → StillTells mid new (Takes (Err failed)) → StillTells old new (AllTaken bytes)
+pub took_so_far : (old mid new : Option Tape) (bytes : List ℕ) (failed : Failed) → StillTells old mid (AllTaken bytes)
+    → StillTells mid new (Takes (Err failed)) → StillTells old new (AllTaken bytes)
 took_so_far old mid None bytes failed a b = tt
 took_so_far old None (Some new) bytes failed a b = absurd b
 took_so_far None (Some mid) (Some new) bytes failed a b = absurd a

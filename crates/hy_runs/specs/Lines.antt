@@ -12,7 +12,7 @@ use Rattle.hy_runs.specs.Runs.{Appends, AllTaken}
 
 -- PRINTING
 
--- the line went out; or some front of it, where the output failed; or nothing, where memory was wanting
+-- the line went out; or some front of it, where the output failed; or nothing, where memory ran out
 abbrev pub Prints : Shown → ℤ → Option (List ℕ) → Option (List ℕ) → Result (Unit {0}) RunCause → Type 0
 Prints shown n old new (Ok done) = StillTells old new (Appends (line_of shown n))
 Prints shown n old new (Err cause.Input) = ⊥
@@ -42,7 +42,7 @@ Reads ended taken (Ok (Some n)) = read_line (not ended) taken ≡ Gives n []
 Reads ended taken (Ok None) = read_line (not ended) taken ≡ Fails []
 Reads ended taken (Err failed) = (read_line true taken ≡ Wants) × (ended ≡ false)
 
--- A line was read, of these bytes of the input. Behind the end of the input there are none.
+-- A line was read, of these bytes of the input. After the end of the input there are none.
 pub record IsRead (old new : Option Tape) (before after : Reader) (result : Result (Option ℤ) Failed) : Type 0 where
   pub taken : List ℕ
   pub told : StillTells old new (AllTaken taken)

@@ -1,18 +1,17 @@
-// One line of input: room for its bytes, taken when it is made, so that no byte wants memory.
+// One line of input: room for its bytes, taken when it is made, so that no byte takes memory.
 ghost use Rattle.std.specs.Prelude.{◌≡◌, ◌-◌, ◌^◌, ◌<◌, ◌++◌, ◌∷◌, [], length, IfOk};
 ghost use Rattle.hy_base.specs.Lines.{number_of, trimmed};
 ghost use Rattle.hy_base.specs.Outside.{faults_after};
 ghost use Rattle.hy_runs.specs.Taking.{Fills};
 
-use hy_base::{Failed, NoMemory, Source};
-use hy_lines::{number_of, trimmed};
+use hy_base::{Failed, NoMemory, Source, number_of, trimmed};
 use std::alloc::Global;
 use std::marker::Model;
 
 // The most bytes that are taken for a line, its line feed among them.
 const MOST: u32 = 4097;
 
-/// What comes behind the bytes of a line.
+/// What comes after the bytes of a line.
 #[derive(Clone, Copy, Debug, PartialEq, Eq)]
 pub enum LineEnd {
     /// A line feed.

@@ -7,7 +7,7 @@ use hy_base::{RunCause, Sink};
 use hy_object::Shown;
 use std::alloc::{AllocError, Global};
 
-/// Writes a word as a line, in one piece. Where memory is wanting for the piece, nothing is written.
+/// Writes a word as a line, in one piece. Where memory runs out for the piece, nothing is written.
 pub fn put_line<K: Sink>(alloc: Global, shown: Shown, n: i64, out: &mut K) -> Result<(), RunCause>
     requires { K.faults out.old < 2 ^ 64 - 1 }
 

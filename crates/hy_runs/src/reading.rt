@@ -8,7 +8,7 @@ use hy_base::{Failed, NoMemory, Source};
 use std::alloc::Global;
 use std::marker::Model;
 
-/// A reader of lines. It keeps room for a line from the start, so that reading wants no memory.
+/// A reader of lines. It keeps room for a line from the start, so that reading takes no memory.
 #[derive(Drop)]
 pub struct Lines {
     line: Line,

@@ -10,28 +10,32 @@ use Rattle.hy_tree.specs.declared.expression.Step.{Step}
 use Rattle.hy_tree.specs.declared.name.Name.{Name}
 use Rattle.hy_tree.specs.declared.expression.StepKind.TheVariants as S
 
-pub calls : (behind : List Step) (step : Step) (args : List Arg) → Some step ≡ slice_get behind 0 → step.kind ≡ S.Call args → use_before (steps_of behind) ≡ Called (labels_of_args (args_of args))
+pub calls : (behind : List Step) (step : Step) (args : List Arg) → Some step ≡ slice_get behind 0 → step.kind ≡ S.Call args → use_before (steps_of behind)
+    ≡ Called (labels_of_args (args_of args))
 calls [] step args h k = absurd (cc)
 calls (first ∷ more) step args h k =
     let e : step ≡ first = cc in
     ap (λ (kind : _). use_before (T.ThenStep (step_kind_of kind (placed first.span first.node)) (steps_of more))) ((λ i. (sym e i).kind) ∙ k)
     ∙ ap (λ s. use_before (T.ThenStep s (steps_of more))) (call_step_is args (placed first.span first.node))
 
-pub indexes : (behind : List Step) (step : Step) (args : List Arg) → Some step ≡ slice_get behind 0 → step.kind ≡ S.Index args → use_before (steps_of behind) ≡ Indexed (labels_of_args (args_of args))
+pub indexes : (behind : List Step) (step : Step) (args : List Arg) → Some step ≡ slice_get behind 0 → step.kind ≡ S.Index args
+    → use_before (steps_of behind) ≡ Indexed (labels_of_args (args_of args))
 indexes [] step args h k = absurd (cc)
 indexes (first ∷ more) step args h k =
     let e : step ≡ first = cc in
     ap (λ (kind : _). use_before (T.ThenStep (step_kind_of kind (placed first.span first.node)) (steps_of more))) ((λ i. (sym e i).kind) ∙ k)
     ∙ ap (λ s. use_before (T.ThenStep s (steps_of more))) (index_step_is args (placed first.span first.node))
 
-pub member_alone : (behind : List Step) (step : Step) (name : Name) → Some step ≡ slice_get behind 0 → step.kind ≡ S.Member name → use_before (steps_of behind) ≡ Alone
+pub member_alone : (behind : List Step) (step : Step) (name : Name) → Some step ≡ slice_get behind 0 → step.kind ≡ S.Member name
+    → use_before (steps_of behind) ≡ Alone
 member_alone [] step name h k = absurd (cc)
 member_alone (first ∷ more) step name h k =
     let e : step ≡ first = cc in
     ap (λ (kind : _). use_before (T.ThenStep (step_kind_of kind (placed first.span first.node)) (steps_of more))) ((λ i. (sym e i).kind) ∙ k)
     ∙ ap (λ s. use_before (T.ThenStep s (steps_of more))) (member_step_is name (placed first.span first.node))
 
-pub part_alone : (behind : List Step) (step : Step) (number : ℤ) → Some step ≡ slice_get behind 0 → step.kind ≡ S.Part number → use_before (steps_of behind) ≡ Alone
+pub part_alone : (behind : List Step) (step : Step) (number : ℤ) → Some step ≡ slice_get behind 0 → step.kind ≡ S.Part number → use_before (steps_of behind)
+    ≡ Alone
 part_alone [] step number h k = absurd (cc)
 part_alone (first ∷ more) step number h k =
     let e : step ≡ first = cc in

@@ -20,7 +20,8 @@ abbrev pub HasFolded : {S X R : Type 0} → (S → List X → R) → S → List 
 HasFolded fold s all k now = fold now (drop k all) ≡ fold s all
 
 module _ {S X R : Type 0} {fold : S → List X → R} {out : S → R} {next : S → X → S} (is : IsFold fold out next) where
-  pub folded_more : (s : S) (all : List X) (k : ℕ) (now behind : S) (x : X) → x ≡ get_or all k x → k < length all → HasFolded fold s all k now → behind ≡ next now x → HasFolded fold s all (k + 1) behind
+  pub folded_more : (s : S) (all : List X) (k : ℕ) (now behind : S) (x : X) → x ≡ get_or all k x → k < length all → HasFolded fold s all k now → behind
+      ≡ next now x → HasFolded fold s all (k + 1) behind
   folded_more s all k now behind x item lt so e =
       let next_k : suc k ≡ k + 1 = omega arith in
       let at : drop k all ≡ x ∷ drop (k + 1) all = drop-cons all k x lt ∙ (λ i. sym item i ∷ drop (next_k i) all) in
@@ -29,7 +30,8 @@ module _ {S X R : Type 0} {fold : S → List X → R} {out : S → R} {next : S 
   pub folded_all : (s : S) (all : List X) (k : ℕ) (now : S) → length all ≤ k → HasFolded fold s all k now → out now ≡ fold s all
   folded_all s all k now end so = sym (is.none now) ∙ ap (fold now) (sym (drop_all k all end)) ∙ so
 
-pub generics_fold : IsFold (λ (s : Names × ℕ) (xs : List TypeParam). with_generics s.0 s.1 xs) (λ s. s.0) (λ s x. (with_name x.name.text (meant.Param s.1) s.0, s.1 + 1))
+pub generics_fold : IsFold (λ (s : Names × ℕ) (xs : List TypeParam). with_generics s.0 s.1 xs) (λ s. s.0)
+    (λ s x. (with_name x.name.text (meant.Param s.1) s.0, s.1 + 1))
 generics_fold = record { none = λ s. refl; some = λ s x more. refl }
 
 pub params_fold : IsFold (λ (s : Names) (xs : List Param). with_params s (map param_of xs)) (λ s. s) (λ s x. with_name x.name.text (meant.Local x.node) s)

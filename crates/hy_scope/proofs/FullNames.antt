@@ -10,7 +10,7 @@ HasNamed rest base all k text = text ++ rest (drop k all) ≡ base ++ (codes "("
 
 -- TWO FULL NAMES
 
--- what stands before and behind the first c
+-- what stands before and after the first c
 split_at : (c : ℕ) (a b x y : List ℕ) → AllByRecursion (λ k. k ≢ c) a → AllByRecursion (λ k. k ≢ c) b → a ++ (c ∷ x) ≡ b ++ (c ∷ y) → (a ≡ b) × (x ≡ y)
 split_at c [] [] x y h k e = (refl, cc)
 split_at c [] (n ∷ b) x y h k e = let same : n ≡ c = cc in absurd (k.0 same)
@@ -66,10 +66,12 @@ same_labels [] [] h k e = refl
 same_labels [] (label ∷ more) h k e = absurd (not_end_label label (labels_text more) k.0 e)
 same_labels (label ∷ more) [] h k e = absurd (not_end_label label (labels_text more) h.0 (sym e))
 same_labels (label ∷ more) (other ∷ others) h k e =
-    let r = split_at 58 (label_text label) (label_text other) (labels_text more) (labels_text others) (no_colon_label label h.0) (no_colon_label other k.0) e in
+    let r = split_at 58 (label_text label) (label_text other) (labels_text more) (labels_text others)
+    (no_colon_label label h.0) (no_colon_label other k.0) e in
     λ i. same_label label other h.0 k.0 r.0 i ∷ same_labels more others h.1 k.1 r.1 i
 
-pub tell_apart : (base other : List ℕ) (labels others : List (Option (List ℕ))) → IsNameText base → IsNameText other → AreLabels labels → AreLabels others → full_name base labels ≡ full_name other others → (base ≡ other) × (labels ≡ others)
+pub tell_apart : (base other : List ℕ) (labels others : List (Option (List ℕ))) → IsNameText base → IsNameText other → AreLabels labels → AreLabels others
+    → full_name base labels ≡ full_name other others → (base ≡ other) × (labels ≡ others)
 tell_apart base other labels others p q h k e =
     let r = split_at 40 base other (labels_text labels) (labels_text others) (no_open base p) (no_open other q) e in
     (r.0, same_labels labels others h k r.1)

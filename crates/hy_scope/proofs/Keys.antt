@@ -11,7 +11,8 @@ both : {X : Type 0} (b : Bool) (v w : X) (o : Option X) → cond b (Some v) o �
 both true v w o = refl
 both false v w o = refl
 
-apart : {X : Type 0} (b c : Bool) (v w : X) (o : Option X) → (b ≡ true → c ≡ true → ⊥) → cond c (Some w) (cond b (Some v) o) ≡ cond b (Some v) (cond c (Some w) o)
+apart : {X : Type 0} (b c : Bool) (v w : X) (o : Option X) → (b ≡ true → c ≡ true → ⊥) → cond c (Some w) (cond b (Some v) o)
+    ≡ cond b (Some v) (cond c (Some w) o)
 apart true true v w o h = absurd (h refl refl)
 apart true false v w o h = refl
 apart false true v w o h = refl
@@ -24,8 +25,10 @@ module _ {K X : Type 0} (f : K → List ℕ) (k : K) (v : X) (name : List ℕ) w
   abbrev found : List (K × X) → Option X
   found es = lookup (λ key. bytes_eq name (f key)) es
 
-  put_before : (e : K × X) (es : List (K × X)) → found (insert_entry (same_by f) es k v) ≡ cond (bytes_eq name (f k)) (Some v) (found es) → (b : Bool) → same_by f k e.0 ≡ b
-      → found (if b then (e.0, v) ∷ es else e ∷ insert_entry (same_by f) es k v) ≡ cond (bytes_eq name (f k)) (Some v) (cond (bytes_eq name (f e.0)) (Some e.1) (found es))
+  put_before : (e : K × X) (es : List (K × X)) → found (insert_entry (same_by f) es k v) ≡ cond (bytes_eq name (f k)) (Some v) (found es) → (b : Bool)
+      → same_by f k e.0 ≡ b
+      → found (if b then (e.0, v) ∷ es else e ∷ insert_entry (same_by f) es k v) ≡ cond (bytes_eq name (f k)) (Some v)
+      (cond (bytes_eq name (f e.0)) (Some e.1) (found es))
   put_before e es before true h =
       let one : f k ≡ f e.0 = (bytes_eq-Decides (f k) (f e.0)).0 h in
       both (bytes_eq name (f e.0)) v e.1 (found es) ∙ ap (λ n. cond (bytes_eq name n) (Some v) (cond (bytes_eq name (f e.0)) (Some e.1) (found es))) (sym one)
@@ -39,6 +42,7 @@ module _ {K X : Type 0} (f : K → List ℕ) (k : K) (v : X) (name : List ℕ) w
   looked_up [] = refl
   looked_up (e ∷ es) = put_before e es (looked_up es) (same_by f k e.0) refl
 
--- a name is put behind others that are known
-pub named_behind : (old new known : Names) (text name : List ℕ) (meant : Meant) → new ≡ with_name text meant old → text ≡ name → old ≡ known → new ≡ with_name name meant known
+-- a name is put after others that are known
+pub named_behind : (old new known : Names) (text name : List ℕ) (meant : Meant) → new ≡ with_name text meant old → text ≡ name → old ≡ known → new
+    ≡ with_name name meant known
 named_behind old new known text name meant put same is = put ∙ (λ i. with_name (same i) meant (is i))

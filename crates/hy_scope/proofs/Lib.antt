@@ -9,3 +9,5 @@ pub mod Folds
 pub mod FamilyKeys
 pub mod Members
 mod Rows
+pub mod NodesFound
+pub mod FoundTable

@@ -1,3 +1,4 @@
 pub mod FullNames
 pub mod Shown
 pub mod Noted
+pub mod FoundNames

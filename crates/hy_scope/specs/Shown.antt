@@ -3,7 +3,6 @@ use Rattle.std.specs.Prelude.{ℕ, List, [], map, reverse, Option, ◌∷◌}
 use Rattle.std.specs.Option.{option_map, unwrap_or}
 use Rattle.std.specs.Map.{lookup}
 use Rattle.std.specs.Str.{bytes_eq}
-use Rattle.hy_base.specs.First.{Refusal}
 use Rattle.hy_tree.specs.Names.{Names}
 use Rattle.hy_tree.specs.FileNames as N
 use Rattle.hy_tree.specs.Findings as F
@@ -13,8 +12,6 @@ use Rattle.hy_scope.specs.declared.file.File.{File}
 use Rattle.hy_scope.specs.declared.blocks.Blocks.{Blocks}
 use Rattle.hy_scope.specs.declared.families.Families.{Families}
 use Rattle.hy_scope.specs.declared.families.Family.{Family}
-use Rattle.hy_scope.specs.declared.least.Broken.{Broken}
-use Rattle.hy_scope.specs.declared.least.Least.{Least}
 use Rattle.hy_scope.specs.declared.notes.Notes.{Notes}
 use Rattle.hy_scope.specs.declared.table.Table.{Table}
 
@@ -22,14 +19,8 @@ use Rattle.hy_scope.specs.declared.table.Table.{Table}
 abbrev pub names_of : Table → Names
 names_of table = λ name. lookup (λ key. bytes_eq name key.items) table.names.entries
 
-abbrev pub refusal_of : Broken → Refusal
-refusal_of broken = record { rule = broken.rule; span = broken.span }
-
-abbrev pub least_of : Least → Option Refusal
-least_of least = option_map refusal_of least.first
-
 abbrev pub noted : Notes → Noted
-noted notes = record { first = least_of notes.least; meant = notes.meant.items }
+noted notes = record { first = notes.first; meant = notes.meant.items }
 
 abbrev pub family_of : Family → N.Family
 family_of family = record { fields = names_of family.fields; bases = names_of family.bases; callables = names_of family.callables }

@@ -1,7 +1,8 @@
 // The names of the blocks around a statement.
 ghost use Rattle.std.specs.Prelude.{◌≡◌, ◌∷◌, [], IfOk, OnOk, map, reverse};
 ghost use Rattle.hy_tree.specs.Names.{no_names, in_blocks, is_there};
-ghost use Rattle.hy_tree.specs.Findings.{here as here_of, with_local};
+ghost use Rattle.hy_tree.specs.Findings as findings;
+ghost use Rattle.hy_tree.specs.Findings.{with_local};
 ghost use Rattle.hy_scope.specs.Shown.{blocks_of, names_of, outer};
 
 use crate::table::Table;
@@ -55,7 +56,7 @@ impl Blocks {
 
     /// Whether the innermost block has a name.
     pub fn is_here(&self, name: &[u8]) -> bool
-        ensures { result ≡ is_there (here_of (blocks_of self.now) name.now) }
+        ensures { result ≡ is_there (findings.here (blocks_of self.now) name.now) }
     {
         self.here.find(name).is_some()
     }
@@ -80,7 +81,7 @@ impl Blocks {
 
     /// Declares a name in the innermost block, and says whether it was there.
     pub fn put(&mut self, alloc: Global, name: &Name, node: u32) -> Result<bool, NoMemory>
-        ensures was { IfOk result (λ was. was ≡ is_there (here_of (blocks_of self.old) name.now.text)) }
+        ensures was { IfOk result (λ was. was ≡ is_there (findings.here (blocks_of self.old) name.now.text)) }
         ensures blocks { OnOk result (blocks_of self.new ≡ with_local name.now node (blocks_of self.old)) }
     {
         let was = self

@@ -2,7 +2,8 @@
 ghost use Rattle.std.specs.Prelude.{◌≡◌, ◌∷◌, ◌++◌, [], IfOk, OnOk, map};
 ghost use Rattle.std.specs.Option.{unwrap_or};
 ghost use Rattle.hy_tree.specs.Denotes.{type_of, param_of, variant_of, callable_of};
-ghost use Rattle.hy_tree.specs.Findings.{declares, find_traits, find_generics, find_type, find_params, find_body, find_variant, find_variants, find_inside, find_callable, with_generics, with_params, word_of};
+ghost use Rattle.hy_tree.specs.Findings.{declares, find_traits, find_generics, find_type, find_params, find_body, find_variant, find_variants, find_inside};
+ghost use Rattle.hy_tree.specs.Findings.{find_callable, with_generics, with_params, word_of};
 ghost use Rattle.hy_tree.specs.Names.{no_names, with_name};
 ghost use Rattle.hy_tree.specs.declared.meant.Meant.TheVariants as meaning;
 ghost use Rattle.hy_scope.specs.Noted.{after};
@@ -33,7 +34,7 @@ fn word(mode: Mode) -> &'static [u8]
     }
 }
 
-/// The `place`-th type parameter, behind those before it.
+/// The `place`-th type parameter, after those before it.
 fn walk_generic(
     alloc: Global,
     file: &File,
@@ -42,7 +43,8 @@ fn walk_generic(
     place: usize,
     p: &TypeParam,
 ) -> Result<(), NoMemory>
-    ensures notes { OnOk result (noted notes.new ≡ after (declares (names_of before.old) p.now.name ++ find_traits (file_of file.now) p.now.bounds) (noted notes.old)) }
+    ensures notes { OnOk result (noted notes.new ≡ after (declares (names_of before.old) p.now.name ++ find_traits (file_of file.now) p.now.bounds)
+        (noted notes.old)) }
     ensures names { OnOk result (names_of before.new ≡ with_name p.now.name.text (meaning.Param place) (names_of before.old)) }
 {
     let Ok(place) = u32::try_from(place) else {
@@ -71,7 +73,7 @@ fn walk_generics(
     Ok(before)
 }
 
-/// A parameter, behind those before it.
+/// A parameter, after those before it.
 fn walk_param(
     alloc: Global,
     around: &Around,
@@ -79,7 +81,8 @@ fn walk_param(
     before: &mut Table,
     p: &Param,
 ) -> Result<(), NoMemory>
-    ensures notes { OnOk result (noted notes.new ≡ after (declares (names_of before.old) p.now.name ++ find_type (around_of around.now) (type_of p.now.written)) (noted notes.old)) }
+    ensures notes { OnOk result (noted notes.new ≡ after (declares (names_of before.old) p.now.name ++ find_type (around_of around.now)
+        (type_of p.now.written)) (noted notes.old)) }
     ensures names { OnOk result (names_of before.new ≡ with_name p.now.name.text (meaning.Local p.now.node) (names_of before.old)) }
 {
     let was = before.put(alloc, p.name.text.as_slice(), Meant::Local(p.node))?;
@@ -113,7 +116,8 @@ fn walk_body(
     notes: &mut Notes,
     v: &Variant,
 ) -> Result<(), NoMemory>
-    ensures notes { OnOk result (noted notes.new ≡ after (find_body (around_of around.now) (blocks_of blocks.old) (variant_of v.now) v.now.value) (noted notes.old)) }
+    ensures notes { OnOk result (noted notes.new ≡ after (find_body (around_of around.now) (blocks_of blocks.old) (variant_of v.now) v.now.value)
+        (noted notes.old)) }
     ensures blocks { OnOk result (blocks_of blocks.new ≡ blocks_of blocks.old) }
 {
     let Some(value) = &v.value else {
@@ -127,7 +131,7 @@ fn walk_body(
     Ok(())
 }
 
-/// A variant, behind those with these words.
+/// A variant, after those with these words.
 fn walk_variant(
     alloc: Global,
     around: &Around,
@@ -136,7 +140,8 @@ fn walk_variant(
     words: &mut Table,
     v: &Variant,
 ) -> Result<(), NoMemory>
-    ensures notes { OnOk result (noted notes.new ≡ after (find_variant (around_of around.now) (blocks_of blocks.old) (names_of words.old) (variant_of v.now)) (noted notes.old)) }
+    ensures notes { OnOk result (noted notes.new ≡ after (find_variant (around_of around.now) (blocks_of blocks.old) (names_of words.old)
+        (variant_of v.now)) (noted notes.old)) }
     ensures words { OnOk result (names_of words.new ≡ with_name (word_of v.now.mode) meaning.Nothing (names_of words.old)) }
     ensures blocks { OnOk result (blocks_of blocks.new ≡ blocks_of blocks.old) }
 {
@@ -154,7 +159,8 @@ fn walk_variants(
     notes: &mut Notes,
     variants: &[Variant],
 ) -> Result<(), NoMemory>
-    ensures { OnOk result (noted notes.new ≡ after (find_variants (around_of around.now) (blocks_of blocks.old) no_names (map variant_of variants.now)) (noted notes.old)) }
+    ensures { OnOk result (noted notes.new ≡ after (find_variants (around_of around.now) (blocks_of blocks.old) no_names (map variant_of variants.now))
+        (noted notes.old)) }
 {
     let mut words = Table::new(alloc);
     for v in variants {
@@ -163,7 +169,7 @@ fn walk_variants(
     Ok(())
 }
 
-/// The names of what is called, behind its type parameters.
+/// The names of what is called, after its type parameters.
 fn walk_inside(
     alloc: Global,
     around: &Around,

@@ -1,7 +1,8 @@
 // Names in declarations.
 ghost use Rattle.std.specs.Prelude.{◌≡◌, OnOk, map};
 ghost use Rattle.hy_tree.specs.Denotes.{callable_of, conform_of, decl_kind_of, decl_of, member_kind_of, member_of, product_of, trait_of};
-ghost use Rattle.hy_tree.specs.Findings.{find_decl, find_decls, find_member, find_members, has_main as is_there_main, is_main as is_the_main, is_function as is_the_function};
+ghost use Rattle.hy_tree.specs.Findings as findings;
+ghost use Rattle.hy_tree.specs.Findings.{find_decl, find_decls, find_member, find_members};
 ghost use Rattle.hy_tree.specs.Names.{no_names};
 ghost use Rattle.hy_tree.specs.Tree.{DeclCallable, DeclProduct, DeclTrait, DeclConform};
 ghost use Rattle.hy_scope.specs.Noted.{after};
@@ -162,7 +163,7 @@ pub fn walk_decls(
 }
 
 fn is_function(kind: CallableKind) -> bool
-    ensures { result ≡ is_the_function kind }
+    ensures { result ≡ findings.is_function kind }
 {
     match kind {
         CallableKind::Function => true,
@@ -174,7 +175,7 @@ fn is_function(kind: CallableKind) -> bool
 
 /// Whether this is `fun main()`, without generics and result.
 fn is_main(c: &Callable) -> bool
-    ensures { result ≡ is_the_main (DeclCallable (callable_of c.now)) }
+    ensures { result ≡ findings.is_main (DeclCallable (callable_of c.now)) }
 {
     let named = base_of(&c.name) == b"main".as_slice();
     let bare = c.generics.as_slice().is_empty() && c.params.as_slice().is_empty();
@@ -183,7 +184,7 @@ fn is_main(c: &Callable) -> bool
 
 /// Whether `fun main()` is there, without generics and result.
 pub fn has_main(decls: &[Decl]) -> bool
-    ensures { result ≡ is_there_main (map decl_of decls.now) }
+    ensures { result ≡ findings.has_main (map decl_of decls.now) }
 {
     for decl in decls {
         if let DeclKind::Callable(c) = &decl.kind {

@@ -28,7 +28,7 @@ pub fn walk_expr(
     walk_before(alloc, around, blocks, notes, e, &[])
 }
 
-/// The names in an expression that has these steps right behind it.
+/// The names in an expression that has these steps right after it.
 #[cycle(expression)]
 #[tactic(auto, using(hy_tree::proofs::Equations::expr_variants))]
 fn walk_before(
@@ -39,7 +39,8 @@ fn walk_before(
     e: &Expr,
     behind: &[Step],
 ) -> Result<(), NoMemory>
-    ensures { OnOk result (noted notes.new ≡ after (find_as (around_of around.now) (blocks_of blocks.now) (use_before (steps_of behind.now)) (expr_of e.now)) (noted notes.old)) }
+    ensures { OnOk result (noted notes.new ≡ after (find_as (around_of around.now) (blocks_of blocks.now) (use_before (steps_of behind.now))
+        (expr_of e.now)) (noted notes.old)) }
 {
     match &e.kind {
         ExprKind::Chain(first, links) => {

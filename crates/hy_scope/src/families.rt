@@ -2,7 +2,8 @@
 ghost use Rattle.std.specs.Prelude.{◌≡◌, ◌||◌, IfOk, OnOk, cond, map};
 ghost use Rattle.std.specs.Str.{bytes_eq};
 ghost use Rattle.hy_tree.specs.Denotes.{callable_of, member_kind_of, member_of};
-ghost use Rattle.hy_tree.specs.FileNames.{is_reserved as reserved, no_family, with_member, with_members, with_asked, with_all_asked, member_name as member_text};
+ghost use Rattle.hy_tree.specs.FileNames as file_names;
+ghost use Rattle.hy_tree.specs.FileNames.{no_family, with_member, with_members, with_asked, with_all_asked};
 ghost use Rattle.hy_tree.specs.Findings.{twice_member, twice_members, when, Broken};
 ghost use Rattle.hy_tree.specs.Names.{no_names, with_name, is_there, base_text};
 ghost use Rattle.hy_base.specs.declared.refusal.Rule.TheVariants.{N2};
@@ -40,7 +41,7 @@ pub fn base_of(name: &Option<Name>) -> &[u8]
 
 /// The name of a member that is called.
 fn member_name(alloc: Global, c: &Callable) -> Result<Vec<u8>, NoMemory>
-    ensures { IfOk result (λ text. text.items ≡ member_text (callable_of c.now)) }
+    ensures { IfOk result (λ text. text.items ≡ file_names.member_name (callable_of c.now)) }
 {
     if let CallableKind::Deinit = c.kind {
         return Ok(Vec::from_slice(alloc, b"deinit".as_slice())?);
@@ -63,7 +64,7 @@ impl Family {
         }
     }
 
-    /// A field behind the members that are there.
+    /// A field after the members that are there.
     fn declare_field(
         &mut self,
         alloc: Global,
@@ -71,8 +72,13 @@ impl Family {
         name: &Name,
         node: u32,
     ) -> Result<(), NoMemory>
-        ensures notes { OnOk result (noted notes.new ≡ after (when (is_there (names_of self.old.fields name.now.text) || (is_there (names_of self.old.bases name.now.text) || reserved name.now.text)) (Broken N2 name.now.span)) (noted notes.old)) }
-        ensures family { OnOk result (family_of self.new ≡ record (family_of self.old) { fields = with_name name.now.text (meaning.SelfField node) (names_of self.old.fields) }) }
+        ensures notes { OnOk result (noted notes.new
+            ≡ after (when (is_there (names_of self.old.fields name.now.text) || (is_there (names_of self.old.bases name.now.text) || file_names.is_reserved
+            name.now.text)) (Broken N2 name.now.span)) (noted notes.old)) }
+        ensures family { OnOk result (family_of self.new ≡ record (family_of self.old) {
+          fields = with_name name.now.text (meaning.SelfField node)
+              (names_of self.old.fields);
+        }) }
     {
         let shares = self.bases.find(name.text.as_slice()).is_some();
         let was = self
@@ -83,7 +89,7 @@ impl Family {
         Ok(())
     }
 
-    /// A method, subscript or `deinit` behind the members that are there.
+    /// A method, subscript or `deinit` after the members that are there.
     fn declare_callable(
         &mut self,
         alloc: Global,
@@ -104,7 +110,7 @@ impl Family {
         Ok(())
     }
 
-    /// A member behind those that are there.
+    /// A member after those that are there.
     fn declare(&mut self, alloc: Global, notes: &mut Notes, member: &Member) -> Result<(), NoMemory>
         ensures notes { OnOk result (noted notes.new ≡ after (twice_member (family_of self.old) (member_kind_of member.now.kind)) (noted notes.old)) }
         ensures family { OnOk result (family_of self.new ≡ with_member (family_of self.old) member.now.node (member_kind_of member.now.kind)) }
@@ -133,7 +139,7 @@ fn ask(alloc: Global, asked: &mut Table, member: &MemberKind) -> Result<(), NoMe
     Ok(())
 }
 
-/// Members behind those that are there.
+/// Members after those that are there.
 pub fn declare_members(
     alloc: Global,
     notes: &mut Notes,

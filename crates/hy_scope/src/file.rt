@@ -1,7 +1,8 @@
 // The names of a file.
 ghost use Rattle.std.specs.Prelude.{◌≡◌, IfOk, OnOk, map};
 ghost use Rattle.hy_tree.specs.Denotes.{callable_of, conform_of, decl_kind_of, decl_of, member_of, product_of, trait_of};
-ghost use Rattle.hy_tree.specs.FileNames.{predeclared as predeclared_names, meaning_of, no_family, with_all_asked, with_decl, with_decls, with_family};
+ghost use Rattle.hy_tree.specs.FileNames as file_names;
+ghost use Rattle.hy_tree.specs.FileNames.{meaning_of, no_family, with_all_asked, with_decl, with_decls, with_family, with_integers};
 ghost use Rattle.hy_tree.specs.Findings.{twice_decl, twice_decls, twice_members, twice_type, twice_callable};
 ghost use Rattle.hy_tree.specs.Names.{no_names, with_name};
 ghost use Rattle.hy_tree.specs.Tree.{DeclCallable, DeclProduct, DeclTrait, DeclConform};
@@ -16,8 +17,8 @@ use crate::notes::Notes;
 use crate::table::Table;
 use hy_base::{NoMemory, Rule};
 use hy_tree::predeclared::{
-    APPEND, BOOL, COPY, COPYABLE, COUNT, DEINITIALIZABLE, INT, MOVABLE, PRECONDITION, PRINT, READ,
-    REMOVE_LAST, SWAP_AT,
+    APPEND, BOOL, COPY, COPYABLE, COUNT, DEINITIALIZABLE, INT, INT8, INT16, INT32, MOVABLE,
+    PRECONDITION, PRINT, READ, REMOVE_LAST, SWAP_AT, UINT8, UINT16, UINT32, UINT64,
 };
 use hy_tree::{
     Callable, CallableKind, Conform, Decl, DeclKind, Meant, Member, Name, Product, TraitDef,
@@ -44,17 +45,31 @@ fn predeclare(alloc: Global, table: &mut Table, name: &[u8], number: u32) -> Res
     Ok(())
 }
 
+fn predeclare_integers(alloc: Global, table: &mut Table) -> Result<(), NoMemory>
+    ensures { OnOk result (names_of table.new ≡ with_integers (names_of table.old)) }
+{
+    predeclare(alloc, table, b"Int8".as_slice(), INT8)?;
+    predeclare(alloc, table, b"Int16".as_slice(), INT16)?;
+    predeclare(alloc, table, b"Int32".as_slice(), INT32)?;
+    predeclare(alloc, table, b"UInt8".as_slice(), UINT8)?;
+    predeclare(alloc, table, b"UInt16".as_slice(), UINT16)?;
+    predeclare(alloc, table, b"UInt32".as_slice(), UINT32)?;
+    predeclare(alloc, table, b"UInt64".as_slice(), UINT64)?;
+    predeclare(alloc, table, b"Int".as_slice(), INT)?;
+    Ok(())
+}
+
 fn predeclared_types(alloc: Global) -> Result<Table, NoMemory>
-    ensures { IfOk result (λ table. names_of table ≡ predeclared_names.types) }
+    ensures { IfOk result (λ table. names_of table ≡ file_names.predeclared.types) }
 {
     let mut table = Table::new(alloc);
-    predeclare(alloc, &mut table, b"Int".as_slice(), INT)?;
+    predeclare_integers(alloc, &mut table)?;
     predeclare(alloc, &mut table, b"Bool".as_slice(), BOOL)?;
     Ok(table)
 }
 
 fn predeclared_traits(alloc: Global) -> Result<Table, NoMemory>
-    ensures { IfOk result (λ table. names_of table ≡ predeclared_names.traits) }
+    ensures { IfOk result (λ table. names_of table ≡ file_names.predeclared.traits) }
 {
     let mut table = Table::new(alloc);
     predeclare(alloc, &mut table, b"Copyable".as_slice(), COPYABLE)?;
@@ -69,7 +84,7 @@ fn predeclared_traits(alloc: Global) -> Result<Table, NoMemory>
 }
 
 fn predeclared_callables(alloc: Global) -> Result<Table, NoMemory>
-    ensures { IfOk result (λ table. names_of table ≡ predeclared_names.callables) }
+    ensures { IfOk result (λ table. names_of table ≡ file_names.predeclared.callables) }
 {
     let mut table = Table::new(alloc);
     predeclare(alloc, &mut table, b"print(_:)".as_slice(), PRINT)?;
@@ -84,7 +99,7 @@ fn predeclared_callables(alloc: Global) -> Result<Table, NoMemory>
 }
 
 fn predeclared_bases(alloc: Global) -> Result<Table, NoMemory>
-    ensures { IfOk result (λ table. names_of table ≡ predeclared_names.bases) }
+    ensures { IfOk result (λ table. names_of table ≡ file_names.predeclared.bases) }
 {
     let mut table = Table::new(alloc);
     predeclare(alloc, &mut table, b"print".as_slice(), PRINT)?;
@@ -94,7 +109,7 @@ fn predeclared_bases(alloc: Global) -> Result<Table, NoMemory>
 }
 
 fn predeclared_members(alloc: Global) -> Result<Table, NoMemory>
-    ensures { IfOk result (λ table. names_of table ≡ predeclared_names.members) }
+    ensures { IfOk result (λ table. names_of table ≡ file_names.predeclared.members) }
 {
     let mut table = Table::new(alloc);
     predeclare(alloc, &mut table, b"count".as_slice(), COUNT)?;
@@ -120,7 +135,7 @@ fn meaning(kind: CallableKind, node: u32) -> Meant
 impl File {
     /// The predeclared names.
     pub fn new(alloc: Global) -> Result<File, NoMemory>
-        ensures { IfOk result (λ file. file_of file ≡ predeclared_names) }
+        ensures { IfOk result (λ file. file_of file ≡ file_names.predeclared) }
     {
         let types = predeclared_types(alloc)?;
         let traits = predeclared_traits(alloc)?;
@@ -146,8 +161,13 @@ impl File {
         owner: &[u8],
         members: &[Member],
     ) -> Result<(), NoMemory>
-        ensures notes { OnOk result (noted notes.new ≡ after (twice_members (families_of self.old.families owner.now) (map member_of members.now)) (noted notes.old)) }
-        ensures file { OnOk result (file_of self.new ≡ record (file_of self.old) { members = with_all_asked (names_of self.old.members) (map member_of members.now); families = with_family owner.now (map member_of members.now) (families_of self.old.families) }) }
+        ensures notes { OnOk result (noted notes.new ≡ after (twice_members (families_of self.old.families owner.now) (map member_of members.now))
+            (noted notes.old)) }
+        ensures file { OnOk result (file_of self.new ≡ record (file_of self.old) {
+          members = with_all_asked (names_of self.old.members)
+              (map member_of members.now);
+          families = with_family owner.now (map member_of members.now) (families_of self.old.families);
+        }) }
     {
         let mut family = self.families.take(alloc, owner)?;
         declare_members(alloc, notes, &mut family, &mut self.members, members)?;
@@ -227,7 +247,7 @@ impl File {
         self.declare_members(alloc, notes, c.target.text.as_slice(), c.members.as_slice())
     }
 
-    /// A declaration behind those that are there.
+    /// A declaration after those that are there.
     pub fn declare(
         &mut self,
         alloc: Global,

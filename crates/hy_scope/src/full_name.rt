@@ -2,7 +2,7 @@
 ghost use Rattle.std.specs.Prelude.{◌≡◌, ◌++◌, IfOk, OnOk, map, codes};
 ghost use Rattle.hy_tree.specs.Denotes.{args_of, param_of};
 ghost use Rattle.hy_tree.specs.Names.{full_name, label_text, labels_of_args, labels_of_params};
-ghost use Rattle.hy_tree.specs.Parts.{label_of as label_of_param};
+ghost use Rattle.hy_tree.specs.Parts as parts;
 
 use hy_base::NoMemory;
 use hy_tree::{Arg, Param};
@@ -20,7 +20,7 @@ fn label_of_arg(arg: &Arg) -> &[u8]
 
 /// The text of a parameter's label, or `_` where it has none.
 fn label_of(param: &Param) -> &[u8]
-    ensures { result.now ≡ label_text (label_of_param (param_of param.now)) }
+    ensures { result.now ≡ label_text (parts.label_of (param_of param.now)) }
 {
     match param.label() {
         Some(label) => label.as_slice(),
@@ -28,7 +28,7 @@ fn label_of(param: &Param) -> &[u8]
     }
 }
 
-/// Puts a label with its colon behind the text.
+/// Puts a label with its colon after the text.
 fn push_label(text: &mut Vec<u8>, label: &[u8]) -> Result<(), NoMemory>
     ensures { OnOk result (text.new.items ≡ text.old.items ++ (label.now ++ codes ":")) }
 {

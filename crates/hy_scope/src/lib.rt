@@ -11,7 +11,6 @@ mod families;
 mod file;
 mod full_name;
 mod laws;
-mod least;
 mod named;
 mod notes;
 mod resolved_names;
@@ -19,5 +18,5 @@ mod statement;
 mod table;
 mod written;
 
-pub use laws::full_names_tell_apart;
+pub use laws::{full_names_tell_apart, names_stand_at_their_nodes};
 pub use resolved_names::resolve;

@@ -1,7 +1,8 @@
 // What a name in an expression stands for.
 ghost use Rattle.std.specs.Prelude.{◌≡◌, IfOk, OnOk};
 ghost use Rattle.hy_tree.specs.Denotes.{steps_of};
-ghost use Rattle.hy_tree.specs.Findings.{callable_named as callable_meant, stands_for as meant_by, use_before, as_call as found_call, as_index as found_index, find_name};
+ghost use Rattle.hy_tree.specs.Findings as findings;
+ghost use Rattle.hy_tree.specs.Findings.{use_before, find_name};
 ghost use Rattle.hy_scope.specs.Noted.{after};
 ghost use Rattle.hy_scope.specs.Shown.{around_of, blocks_of, file_of, noted};
 
@@ -16,7 +17,7 @@ use std::alloc::Global;
 
 /// A call finds no subscript.
 fn as_call(found: Option<Meant>) -> Option<Meant>
-    ensures { result ≡ found_call found }
+    ensures { result ≡ findings.as_call found }
 {
     match found {
         Some(Meant::Sub(_)) => None,
@@ -26,7 +27,7 @@ fn as_call(found: Option<Meant>) -> Option<Meant>
 
 /// Brackets find subscripts alone.
 fn as_index(found: Option<Meant>) -> Option<Meant>
-    ensures { result ≡ found_index found }
+    ensures { result ≡ findings.as_index found }
 {
     match found {
         Some(Meant::Sub(node)) => Some(Meant::Sub(node)),
@@ -41,7 +42,7 @@ fn callable_named(
     name: &[u8],
     behind: &[Step],
 ) -> Result<Option<Meant>, NoMemory>
-    ensures { IfOk result (λ meant. meant ≡ callable_meant (file_of file.now) name.now (use_before (steps_of behind.now))) }
+    ensures { IfOk result (λ meant. meant ≡ findings.callable_named (file_of file.now) name.now (use_before (steps_of behind.now))) }
 {
     let Some(step) = behind.first() else {
         return Ok(None);
@@ -60,7 +61,7 @@ fn callable_named(
     }
 }
 
-/// What a name stands for that has these steps right behind it.
+/// What a name stands for that has these steps right after it.
 fn stands_for(
     alloc: Global,
     around: &Around,
@@ -68,7 +69,7 @@ fn stands_for(
     name: &[u8],
     behind: &[Step],
 ) -> Result<Option<Meant>, NoMemory>
-    ensures { IfOk result (λ meant. meant ≡ meant_by (around_of around.now) (blocks_of blocks.now) name.now (use_before (steps_of behind.now))) }
+    ensures { IfOk result (λ meant. meant ≡ findings.stands_for (around_of around.now) (blocks_of blocks.now) name.now (use_before (steps_of behind.now))) }
 {
     if let Some(local) = blocks.find(name) {
         return Ok(Some(local));
@@ -85,7 +86,7 @@ fn stands_for(
     Ok(around.file.traits.find(name))
 }
 
-/// A name in an expression that has these steps right behind it.
+/// A name in an expression that has these steps right after it.
 pub fn walk_name(
     alloc: Global,
     around: &Around,
@@ -95,7 +96,8 @@ pub fn walk_name(
     node: u32,
     behind: &[Step],
 ) -> Result<(), NoMemory>
-    ensures { OnOk result (noted notes.new ≡ after (find_name (around_of around.now) (blocks_of blocks.now) name.now node (use_before (steps_of behind.now))) (noted notes.old)) }
+    ensures { OnOk result (noted notes.new ≡ after (find_name (around_of around.now) (blocks_of blocks.now) name.now node
+        (use_before (steps_of behind.now))) (noted notes.old)) }
 {
     let found = stands_for(alloc, around, blocks, name.text.as_slice(), behind)?;
     match found {

@@ -34,7 +34,7 @@ pub fn resolve(alloc: Global, tree: &Program) -> Result<Resolved, Fault>
 {
     let mut notes = Notes::new(alloc, tree.count())?;
     walk_program(alloc, &mut notes, tree)?;
-    match notes.least.get() {
+    match notes.first {
         Some(first) => Err(Fault::Refused(first.rule, first.span)),
         None => Ok(Resolved { meant: notes.meant }),
     }

@@ -39,7 +39,8 @@ fn walk_value(
     notes: &mut Notes,
     value: &Option<Expr>,
 ) -> Result<(), NoMemory>
-    ensures { OnOk result (noted notes.new ≡ after (find_value (around_of around.now) (blocks_of blocks.now) (option_map expr_of value.now)) (noted notes.old)) }
+    ensures { OnOk result (noted notes.new ≡ after (find_value (around_of around.now) (blocks_of blocks.now) (option_map expr_of value.now))
+        (noted notes.old)) }
 {
     match value {
         Some(value) => walk_expr(alloc, around, blocks, notes, value),
@@ -56,7 +57,8 @@ fn walk_two(
     first: &Expr,
     second: &Expr,
 ) -> Result<(), NoMemory>
-    ensures { OnOk result (noted notes.new ≡ after (find_expr (around_of around.now) (blocks_of blocks.now) (expr_of first.now) ++ find_expr (around_of around.now) (blocks_of blocks.now) (expr_of second.now)) (noted notes.old)) }
+    ensures { OnOk result (noted notes.new ≡ after (find_expr (around_of around.now) (blocks_of blocks.now) (expr_of first.now)
+        ++ find_expr (around_of around.now) (blocks_of blocks.now) (expr_of second.now)) (noted notes.old)) }
 {
     walk_expr(alloc, around, blocks, notes, first)?;
     walk_expr(alloc, around, blocks, notes, second)
@@ -133,7 +135,8 @@ fn walk_branches(
     notes: &mut Notes,
     branches: &[Branch],
 ) -> Result<(), NoMemory>
-    ensures notes { OnOk result (noted notes.new ≡ after (find_branches (around_of around.now) (blocks_of blocks.old) (branches_of branches.now)) (noted notes.old)) }
+    ensures notes { OnOk result (noted notes.new ≡ after (find_branches (around_of around.now) (blocks_of blocks.old) (branches_of branches.now))
+        (noted notes.old)) }
     ensures blocks { OnOk result (blocks_of blocks.new ≡ blocks_of blocks.old) }
 {
     for branch in branches {
@@ -151,7 +154,8 @@ fn walk_else(
     notes: &mut Notes,
     otherwise: &Option<Block>,
 ) -> Result<(), NoMemory>
-    ensures notes { OnOk result (noted notes.new ≡ after (find_otherwise (around_of around.now) (blocks_of blocks.old) (else_of otherwise.now)) (noted notes.old)) }
+    ensures notes { OnOk result (noted notes.new ≡ after (find_otherwise (around_of around.now) (blocks_of blocks.old) (else_of otherwise.now))
+        (noted notes.old)) }
     ensures blocks { OnOk result (blocks_of blocks.new ≡ blocks_of blocks.old) }
 {
     match otherwise {

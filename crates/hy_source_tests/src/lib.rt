@@ -1,5 +1,5 @@
-//! Tests of the layers that read a source, and of its core. They stand above those crates, so that each of them is proved
-//! once.
+//! Tests of the layers that read a source, of what no command shows: tokens, trees, and tables. They stand above those crates, so
+//! that each of them is proved once. What a command shows is tested by rows on the built program (`tests/`).
 #![tactic(auto)]
 
 #[cfg(test)]
@@ -7,15 +7,9 @@ mod front;
 #[cfg(test)]
 mod lexer;
 #[cfg(test)]
-mod memories;
-#[cfg(test)]
-mod names;
-#[cfg(test)]
 mod parser_declarations;
 #[cfg(test)]
 mod parser_statements;
-#[cfg(test)]
-mod parser_texts;
 #[cfg(test)]
 mod rows;
 #[cfg(test)]

@@ -1,12 +1,12 @@
-//! Declarations of texts.
-use crate::rows::{fault_text, parsed, push_if_wrong};
+// The declarations that sources have.
+use crate::rows::{parsed, push_if_wrong};
 use hy_base::Span;
 use hy_tree::{Callable, CallableKind, Decl, DeclKind, Label, Member, MemberKind, Mode, Program};
 use std::alloc::{AllocError, Global};
 use std::test::Fail;
 
-/// A row has a source, and behind `=>` its declarations or the refusal. A declaration or member is told by its word, the number of
-/// its tokens and its span. A type or a conformance has the number of its traits behind its word. Something callable has the numbers
+/// A row has a source, and after `=>` its declarations. A declaration or member has its word, the number of its tokens and its
+/// span. A type or a conformance has the number of its traits after its word. Something callable has the numbers
 /// of bounds of its type parameters, its parameters (`T` label, `N` none, `S` the name; and the convention), its effect, a `>` if
 /// there is a result, and its bodies (`!` with a word, and `:` with a new value).
 const ROWS: &str = "
@@ -22,44 +22,6 @@ type P {} => type 4 0-9 [];
 public type P: Q, R & S { var x: Int; memberwise init deinit {} public fun m() let -> Int {} fun n() { let {} inout {} } subscript (i: Int): Int {}; subscript t(): Int {} } => public type:3 62 0-172 [var 4 26-36; init 2 38-53; deinit 3 54-63 (){i}; public fun 10 64-92 ()l>{l}; fun 12 93-120 (){!l!i}; subscript 10 121-147 (Sl)>{l}; subscript 8 149-170 ()>{l};];
 trait P { fun f(a: Int) fun g() inout; fun h() -> Int } => trait 23 0-55 [fun 7 10-23 (Sl){}; fun 5 24-37 ()i{}; fun 6 39-53 ()>{};];
 conformance T: P { public fun f() {}; subscript (): Int {} } => conformance:1 21 0-60 [public fun 7 19-36 (){l}; subscript 7 38-58 ()>{l};];
-x => P1 0-1
-; => P1 0-1
-fun f() {};; => P1 11-12
-fun => P1 3-3
-public => P1 6-6
-fun f => P1 5-5
-fun f( => P1 6-6
-fun f() { => P1 9-9
-type P { => P1 8-8
-fun (x: Int) {} => P1 4-5
-fun f(a: yielded Int) {} => P1 9-16
-subscript s(a: set Int): Int {} => P1 15-18
-subscript (): Int {} => P1 10-11
-subscript s() {} => P1 14-15
-subscript s<T>(): Int {} => P1 11-12
-fun f() let {} => P1 8-11
-fun f(a Int: ) {} => P1 13-14
-fun f(a: Int,) {} => P1 13-14
-fun f<>() {} => P1 6-7
-fun f<T: >() {} => P1 9-10
-fun f<T,>() {} => P1 8-9
-public public fun f() {} => P1 7-13
-type P: { } => P1 8-9
-type P: Q R {} => P1 10-11
-type P { ; } => P1 9-10
-type P { memberwise x } => P1 20-21
-type P { var x } => P1 15-16
-type P { fun f() { set(v) {} } } => P1 19-22
-type P { fun f() let { sink {} } } => P1 23-27
-type P { fun f() { let {} x } } => P1 26-27
-trait P { public fun f() } => P1 10-16
-trait P { fun f<T>() } => P1 15-16
-trait P { fun f() {} } => P1 18-19
-trait P { subscript (): Int } => P1 10-19
-trait P: Q {} => P1 7-8
-conformance T {} => P1 14-15
-conformance T: P { var x: Int } => P1 19-22
-conformance T: P { deinit {} } => P1 19-25
 ";
 
 fn mode_text(mode: Mode) -> &'static str {
@@ -242,7 +204,7 @@ fn program_text(alloc: Global, program: &Program) -> Result<String, AllocError> 
 fn shown(alloc: Global, source: &str) -> Result<String, AllocError> {
     match parsed(alloc, source.as_bytes()) {
         Ok(program) => program_text(alloc, &program),
-        Err(fault) => fault_text(alloc, fault),
+        Err(_) => String::from_str(alloc, "refused"),
     }
 }
 

@@ -1,12 +1,7 @@
-// What the nodes of a small program are numbered, and the parts that passes ask for.
-use crate::rows::parsed;
-use hy_base::{Span, Text};
-use hy_tree::{
-    Block, Callable, CallableKind, Decl, DeclKind, Expr, ExprKind, Label, Member, MemberKind, Mode,
-    Name, Param, Product, Program, Step, StepKind, Stmt, StmtKind, TypeExp, TypeKind, Variant,
-    number,
-};
-use sqlite_items::Items;
+// The parts of a tree that passes ask for, and how many nodes it has.
+use crate::rows::{parsed, push_if_wrong};
+use hy_base::Span;
+use hy_tree::{Callable, DeclKind, Expr, Member, MemberKind, Param, Program, StmtKind, number};
 use std::alloc::{AllocError, Global};
 use std::process::Abort;
 use std::test::Fail;
@@ -20,122 +15,14 @@ fn span(from: u32, to: u32) -> Span {
     Span { from, to }
 }
 
-fn text(alloc: Global, word: &str) -> Result<Text, AllocError> {
-    Ok(Text::from_vec(word.as_bytes().to_vec(alloc)?))
-}
-
-fn name(alloc: Global, word: &str, at: Span) -> Result<Name, AllocError> {
-    Ok(Name {
-        text: text(alloc, word)?,
-        span: at,
-    })
-}
-
-fn put_type(numbers: &mut Vec<u32>, written: &TypeExp) -> Result<(), AllocError> {
-    numbers.push(written.node)?;
-    if let TypeKind::Array(element) = &written.kind {
-        numbers.push(element.get().node)?;
-    }
-    Ok(())
-}
-
-fn put_arg(numbers: &mut Vec<u32>, value: &Expr) -> Result<(), AllocError> {
-    numbers.push(value.node)?;
-    if let ExprKind::Marked(place) = &value.kind {
-        numbers.push(place.get().node)?;
-    }
-    Ok(())
-}
-
-fn put_step(numbers: &mut Vec<u32>, step: &Step) -> Result<(), AllocError> {
-    numbers.push(step.node)?;
-    if let StepKind::Call(args) = &step.kind {
-        for arg in args.as_slice() {
-            put_arg(numbers, &arg.value)?;
-        }
-    }
-    Ok(())
-}
-
-fn put_call(numbers: &mut Vec<u32>, e: &Expr) -> Result<(), AllocError> {
-    numbers.push(e.node)?;
-    if let ExprKind::Postfix(callee, steps) = &e.kind {
-        numbers.push(callee.get().node)?;
-        for step in steps.as_slice() {
-            put_step(numbers, step)?;
-        }
-    }
-    Ok(())
-}
-
-fn put_member(numbers: &mut Vec<u32>, member: &Member) -> Result<(), AllocError> {
-    numbers.push(member.node)?;
-    if let MemberKind::Field(_name, written) = &member.kind {
-        put_type(numbers, written)?;
-    }
-    Ok(())
-}
-
-fn put_product(numbers: &mut Vec<u32>, product: &Product) -> Result<(), AllocError> {
-    numbers.push(product.node)?;
-    for name in product.traits.as_slice() {
-        numbers.push(name.node)?;
-    }
-    for member in product.members.as_slice() {
-        put_member(numbers, member)?;
-    }
-    Ok(())
-}
-
-fn put_stmt(numbers: &mut Vec<u32>, stmt: &Stmt) -> Result<(), AllocError> {
-    numbers.push(stmt.node)?;
-    if let StmtKind::Expr(e) = &stmt.kind {
-        put_call(numbers, e)?;
-    }
-    Ok(())
-}
-
-fn put_variant(numbers: &mut Vec<u32>, variant: &Variant) -> Result<(), AllocError> {
-    numbers.push(variant.node)?;
-    numbers.push(variant.block.node)?;
-    for stmt in variant.block.stmts.as_slice() {
-        put_stmt(numbers, stmt)?;
-    }
-    Ok(())
-}
-
-fn put_callable(numbers: &mut Vec<u32>, callable: &Callable) -> Result<(), AllocError> {
-    numbers.push(callable.node)?;
-    for variant in callable.variants.as_slice() {
-        put_variant(numbers, variant)?;
-    }
-    Ok(())
-}
-
-fn put_decl(numbers: &mut Vec<u32>, decl: &Decl) -> Result<(), AllocError> {
-    numbers.push(decl.node)?;
-    match &decl.kind {
-        DeclKind::Product(product) => put_product(numbers, product),
-        DeclKind::Callable(callable) => put_callable(numbers, callable),
-        _ => Ok(()),
-    }
-}
-
-fn numbers_of(alloc: Global, program: &Program) -> Result<Vec<u32>, AllocError> {
-    let mut numbers = Vec::new(alloc);
-    numbers.push(program.node)?;
-    for decl in program.decls.as_slice() {
-        put_decl(&mut numbers, decl)?;
-    }
-    Ok(numbers)
-}
-
 fn check_nodes(rt: &impl Abort, alloc: Global, program: &Program) -> Result<(), Fail> {
+    let mut numbers = Vec::new(alloc);
+    for decl in program.decls.as_slice() {
+        numbers.push(decl.node)?;
+    }
+    assert_eq!(rt; numbers.as_slice(), [1, 7].as_slice());
     assert_eq!(rt; program.count(), 18);
     assert_eq!(rt; program.span, span(0, 56));
-    let numbers = numbers_of(alloc, program)?;
-    let want = [0, 1, 2, 3, 4, 5, 6, 7, 8, 9, 10, 11, 12, 13, 14, 15, 16, 17];
-    assert_eq!(rt; numbers.as_slice(), want.as_slice());
     Ok(())
 }
 
@@ -148,120 +35,96 @@ fn nodes_are_numbered_in_preorder(rt: HostRuntime) -> Result<(), Fail> {
     check_nodes(&rt, rt.alloc(), &again)
 }
 
-fn param(alloc: Global, label: Label) -> Result<Param, AllocError> {
-    let written = TypeExp {
-        kind: TypeKind::Name(name(alloc, "Int", span(0, 0))?),
-        span: span(0, 0),
-        node: 0,
-    };
-    Ok(Param {
-        label,
-        name: name(alloc, "d", span(0, 0))?,
-        mode: Mode::Let,
-        written,
-        span: span(0, 0),
-        node: 0,
-    })
+/// A row has a source, and after `=>` what its first callable, or that of its first member, tells: a `!` where its bodies have
+/// keywords, where a refusal names it, and where one names each of its bodies; and then the labels of its parameters.
+const ROWS: &str = "
+fun f() {} => 4-5: 4-5;.
+subscript s(): Int {} => 10-11: 0-9;.
+subscript s(): Int { let {} inout {} } => !10-11: 21-24 28-33;.
+trait A { fun f() } => 14-15:;.
+type A { deinit {} } => 9-15: 9-15;.
+type A { subscript(): Int {} } => 9-18: 9-18;.
+type A { subscript(): Int { set(n) {} } } => !9-18: 28-31;.
+type A { fun f() { sink {} } } => !13-14: 19-23;.
+fun f(by d: Int, _ e: Int, g: Int) {} => 4-5: 4-5; 'by' - 'g'.
+";
+
+fn push_span(text: &mut String, alloc: Global, at: Span) -> Result<(), AllocError> {
+    let from = at.from;
+    let to = at.to;
+    let one = format!(in alloc; "{from}-{to}")?;
+    text.push_str(one.as_str())
 }
 
-fn has_label(param: &Param, want: Option<&str>) -> bool {
-    match (param.label(), want) {
-        (Some(label), Some(want)) => label.as_slice() == want.as_bytes(),
-        (label, want) => label.is_none() && want.is_none(),
+fn push_label(text: &mut String, param: &Param) -> Result<(), AllocError> {
+    let Some(label) = param.label() else {
+        return text.push_str(" -");
+    };
+    text.push_str(" '")?;
+    text.push_str(str::from_utf8(label.as_slice()).unwrap_or("?"))?;
+    text.push_str("'")
+}
+
+fn callable_text(alloc: Global, callable: &Callable) -> Result<String, AllocError> {
+    let mut text = String::new(alloc);
+    if callable.is_bundle() {
+        text.push_str("!")?;
+    }
+    push_span(&mut text, alloc, callable.name_span())?;
+    text.push_str(":")?;
+    for body in callable.variants.as_slice() {
+        text.push_str(" ")?;
+        push_span(&mut text, alloc, callable.head(body))?;
+    }
+    text.push_str(";")?;
+    for param in callable.params.as_slice() {
+        push_label(&mut text, param)?;
+    }
+    text.push_str(".")?;
+    Ok(text)
+}
+
+fn first_member(members: &[Member]) -> Option<&Callable> {
+    match &members.first()?.kind {
+        MemberKind::Callable(callable) => Some(callable),
+        _ => None,
     }
 }
 
-fn check_label(
-    rt: &impl Abort,
-    alloc: Global,
-    label: Label,
-    want: Option<&str>,
-) -> Result<(), Fail> {
-    let param = param(alloc, label)?;
-    assert!(rt; has_label(&param, want));
-    Ok(())
+fn first_callable(program: &Program) -> Option<&Callable> {
+    match &program.decls.as_slice().first()?.kind {
+        DeclKind::Callable(callable) => Some(callable),
+        DeclKind::Product(product) => first_member(product.members.as_slice()),
+        DeclKind::Trait(definition) => first_member(definition.members.as_slice()),
+        DeclKind::Conformance(conformance) => first_member(conformance.members.as_slice()),
+    }
+}
+
+fn shown(alloc: Global, source: &str) -> Result<String, AllocError> {
+    let Ok(program) = parsed(alloc, source.as_bytes()) else {
+        return String::from_str(alloc, "refused");
+    };
+    match first_callable(&program) {
+        Some(callable) => callable_text(alloc, callable),
+        None => String::from_str(alloc, "no callable"),
+    }
+}
+
+fn push_row(wrong: &mut String, alloc: Global, row: &str) -> Result<(), AllocError> {
+    let Some((source, wanted)) = row.split_once(" => ") else {
+        return Ok(());
+    };
+    let found = shown(alloc, source)?;
+    push_if_wrong(wrong, row, found.as_str(), wanted)
 }
 
 #[test]
-fn labels_are_those_of_calls(rt: HostRuntime) -> Result<(), Fail> {
-    let by = Label::Text(text(rt.alloc(), "by")?);
-    check_label(&rt, rt.alloc(), by, Some("by"))?;
-    check_label(&rt, rt.alloc(), Label::Nothing, None)?;
-    check_label(&rt, rt.alloc(), Label::Same, Some("d"))
-}
-
-fn variant(alloc: Global, keyword: Option<Span>) -> Variant {
-    let block = Block {
-        stmts: Items::new(alloc),
-        span: span(44, 56),
-        node: 0,
-    };
-    Variant {
-        mode: Mode::Let,
-        keyword,
-        value: None,
-        block,
-        span: span(44, 56),
-        node: 0,
+fn callables_and_their_labels(rt: HostRuntime) -> Result<(), Fail> {
+    let mut wrong = String::new(rt.alloc());
+    for row in ROWS.lines() {
+        push_row(&mut wrong, rt.alloc(), row)?;
     }
-}
-
-fn name_of(alloc: Global, named: bool) -> Result<Option<Name>, AllocError> {
-    if named {
-        Ok(Some(name(alloc, "main", span(37, 41))?))
-    } else {
-        Ok(None)
-    }
-}
-
-/// Something callable with one body.
-fn callable(
-    alloc: Global,
-    kind: CallableKind,
-    named: bool,
-    keyword: Option<Span>,
-) -> Result<Callable, AllocError> {
-    let mut variants = Items::new(alloc);
-    variants.push(variant(alloc, keyword))?;
-    Ok(Callable {
-        kind,
-        keyword: span(33, 36),
-        name: name_of(alloc, named)?,
-        generics: Items::new(alloc),
-        params: Items::new(alloc),
-        effect: None,
-        result: None,
-        variants,
-        span: span(33, 56),
-        node: 0,
-    })
-}
-
-/// Whether it has keywords, where a refusal names it, and where one names its body.
-fn check_tokens(rt: &impl Abort, callable: &Callable, is_bundle: bool, whole: Span, body: Span) {
-    assert!(rt; callable.is_bundle() == is_bundle);
-    assert!(rt; callable.name_span() == whole);
-    for variant in callable.variants.as_slice() {
-        assert!(rt; callable.head(variant) == body);
-    }
-}
-
-#[test]
-fn refusals_find_their_tokens(rt: HostRuntime) -> Result<(), Fail> {
-    let word = span(50, 53);
-    let rows = [
-        (CallableKind::Function, true, None, span(37, 41)),
-        (CallableKind::Requirement, true, None, span(37, 41)),
-        (CallableKind::Subscript, true, None, span(33, 36)),
-        (CallableKind::Deinit, false, None, span(33, 36)),
-        (CallableKind::Function, true, Some(word), word),
-        (CallableKind::Subscript, false, Some(word), word),
-    ];
-    for (kind, named, keyword, want) in rows {
-        let callable = callable(rt.alloc(), kind, named, keyword)?;
-        let whole = if named { span(37, 41) } else { span(33, 36) };
-        check_tokens(&rt, &callable, keyword.is_some(), whole, want);
-    }
+    assert_eq!(rt; wrong.as_str(), "");
     Ok(())
 }
 

@@ -2,6 +2,7 @@
 ghost use Rattle.std.specs.Prelude.{◌≡◌};
 ghost use Rattle.hy_types.specs.Types.{HasId};
 
+use hy_base::Num;
 use hy_types::{Found, Ty, TyId, TyList, TyTable};
 use std::alloc::Global;
 use std::process::Abort;
@@ -38,6 +39,11 @@ tuple 6,6 = 19
 tuple 0,0 = 20
 array 5 = 21
 tuple 2,2,0 = 22
+int8 = 23
+uint64 = 24
+int8 = 23
+tuple 23,24 = 25
+array 24 = 26
 ";
 
 // The parts of the products. 40 has three fields, 41 two of 40 and none of its own, 42 none, and 43 itself.
@@ -73,6 +79,10 @@ const WORDS: &str = "
 20 = 2
 21 = 2
 22 = 1
+23 = 1
+24 = 1
+25 = 2
+26 = 2
 ";
 
 // Pairs of the type before, from `Int` on, and from `()` on: each with its words. The last is a pair of the largest and `Int`.
@@ -129,6 +139,11 @@ const MATCHES: &str = "
 0 0, 19 20 = yes, 0 -
 0 0, 19 3 = no, - -
 0 0, 8 9 = no, - -
+0 0, 23 23 = yes, - -
+0 0, 23 24 = no, - -
+0 0, 0 23 = no, - -
+0 0, 12 25 = yes, 23 24
+0 0, 25 3 = no, - -
 6 0, 6 1 = no, 0 -
 6 0, 12 4 = no, 0 -
 6 0, 12 3 = yes, 0 1
@@ -145,6 +160,8 @@ const REPLACED: &str = "
 13, 0,1 = 5
 14, 0,1 = 15
 13, 5,1 = 21
+23, 0,1 = 23
+12, 23,24 = 25
 ";
 
 fn read_number(word: &str) -> Result<u32, Fail> {
@@ -178,6 +195,8 @@ fn read(alloc: Global, words: &str) -> Result<Ty, Fail> {
     let (kind, of) = words.split_once(" ").unwrap_or((words, ""));
     match kind {
         "int" => Ok(Ty::Int),
+        "int8" => Ok(Ty::Sized(Num::I8)),
+        "uint64" => Ok(Ty::Sized(Num::U64)),
         "bool" => Ok(Ty::Bool),
         "tuple" => Ok(Ty::Tuple(read_list(alloc, of)?)),
         "product" => Ok(Ty::Product(read_number(of)?)),

@@ -12,7 +12,8 @@ use Rattle.hy_grammar.specs.Machine.{step, finish, Unexpected, TooDeep, walk, mo
 use Rattle.hy_grammar.specs.Nodes as node
 use Rattle.hy_phrases.specs.Reads.{Halts}
 use Rattle.hy_statements.specs.ReadsStatements.{Opened, Braces, ReadsBlock, ReadsBraces}
-use Rattle.hy_grammar.specs.Stack.{Home, InFile, InOwner, Head, Body, PlainBody, VariantBody, Place, InBody, InBranch, InElse, InLoop, in_loop, State, BlockOpened, StmtWanted, StmtRead, BranchRead, BranchElse, Valued, ForBranch, ForLoop, depth, depth_head, depth_place}
+use Rattle.hy_grammar.specs.Stack.{Home, InFile, InOwner, Head, Body, PlainBody, VariantBody, Place, InBody, InBranch, InElse, InLoop, in_loop, State}
+use Rattle.hy_grammar.specs.Stack.{BlockOpened, StmtWanted, StmtRead, BranchRead, BranchElse, Valued, ForBranch, ForLoop, depth, depth_head, depth_place}
 use Rattle.hy_grammar.specs.StmtSteps.{at_statement, at_block_opened, at_branch_else, called_in, bodied, blocked, brace_of, close}
 use Rattle.hy_phrases.specs.Wanted.{Sees, Takes, OpensNone}
 use Rattle.hy_phrases.specs.declared.stop.Stop.{Stop}
@@ -23,7 +24,8 @@ use Rattle.hy_phrases.proofs.Walks as walks
 
 -- ---- levels
 
-level_called : (home : Home) (head : Head) (variants : List T.Variant) (to : ℕ) → home ≡ head.home → depth (called_in home head variants to) + 1 ≡ depth_head head + 1
+level_called : (home : Home) (head : Head) (variants : List T.Variant) (to : ℕ) → home ≡ head.home
+    → depth (called_in home head variants to) + 1 ≡ depth_head head + 1
 level_called (InFile decls) head variants to h = rw (← h) refl
 level_called (InOwner owner members) head variants to h = rw (← h) refl
 
@@ -31,7 +33,7 @@ level_bodied : (block : T.Block) (body : Body) (brace : Span) → depth (bodied 
 level_bodied block (PlainBody head) brace = level_called head.home head _ _ refl
 level_bodied block (VariantBody head open_brace variants keyword mode value) brace = refl
 
--- behind a block is the level around it
+-- after a block is the level around it
 pub level_blocked : (block : T.Block) (place : Place) → depth (blocked block place) + 1 ≡ depth_place place
 level_blocked block (InBody body brace) = level_bodied block body brace
 level_blocked block (InBranch from branches word condition brace before place) = refl
@@ -44,13 +46,19 @@ closed_fits levels inner here h g = omega (arith, h, g)
 -- ---- where a block ends
 
 module _ {levels total : ℕ} {s : State} {old : List Token} (place : Place) {mid new : List Token} {span : Span} where
-  pub closes : (before : List T.Stmt) → Goes levels total s old (StmtRead before place) mid → Takes k.RightBrace mid span new → walk total s old ≡ walk total (close before place span) new
+  pub closes : (before : List T.Stmt) → Goes levels total s old (StmtRead before place) mid → Takes k.RightBrace mid span new
+      → walk total s old ≡ walk total (close before place span) new
   unfolding step
-  closes before g w = g.same ∙ walks.over total (StmtRead before place) (close before place span) w.token mid new w.front (λ n. rw (w.is, w.stands, step) refl) (closed_fits levels (depth_place place) _ (level_blocked _ place) g.fits)
+  closes before g w = g.same
+      ∙ walks.over total (StmtRead before place) (close before place span) w.token mid new w.front (λ n. rw (w.is, w.stands, step) refl)
+      (closed_fits levels (depth_place place) _ (level_blocked _ place) g.fits)
 
-  pub closes_empty : Goes levels total s old (BlockOpened place) mid → Takes k.RightBrace mid span new → walk total s old ≡ walk total (close [] place span) new
+  pub closes_empty : Goes levels total s old (BlockOpened place) mid → Takes k.RightBrace mid span new
+      → walk total s old ≡ walk total (close [] place span) new
   unfolding step
-  closes_empty g w = g.same ∙ walks.over total (BlockOpened place) (close [] place span) w.token mid new w.front (λ n. rw (w.is, w.stands, step) refl) (closed_fits levels (depth_place place) _ (level_blocked _ place) g.fits)
+  closes_empty g w = g.same
+      ∙ walks.over total (BlockOpened place) (close [] place span) w.token mid new w.front (λ n. rw (w.is, w.stands, step) refl)
+      (closed_fits levels (depth_place place) _ (level_blocked _ place) g.fits)
 
 -- ---- where a block begins
 
@@ -63,8 +71,9 @@ module _ (place : Place) where
   unfolding step finish
   to_first old h = alike _ _ old refl (λ total. refl) (λ t ts e n. not_closed t.kind t (other_kind _ old h t ts e))
 
-  -- the state behind the `}` is that behind the block
-  pub made_block : (total : ℕ) (brace : Span) (before : List T.Stmt) (span : Span) (found : T.Block) (new : List Token) → brace_of place ≡ brace → found ≡ node.block brace before span → walk total (close before place span) new ≡ walk total (blocked found place) new
+  -- the state after the `}` is that after the block
+  pub made_block : (total : ℕ) (brace : Span) (before : List T.Stmt) (span : Span) (found : T.Block) (new : List Token) → brace_of place ≡ brace
+      → found ≡ node.block brace before span → walk total (close before place span) new ≡ walk total (blocked found place) new
   made_block total brace before span found new h e = ap (λ block. walk total (blocked block place) new) (ap (λ b. node.block b before span) h ∙ sym e)
 
 module _ (before : List T.Stmt) (place : Place) where
@@ -72,7 +81,8 @@ module _ (before : List T.Stmt) (place : Place) where
   unfolding finish
   loop_ends word condition total = refl
 
-  pub loop_begins : (word : Span) (condition : T.Expr) (t : Token) (n : ℕ) → step (Valued condition (ForLoop word before place)) t n ≡ left_brace t.kind (BlockOpened (InLoop word condition t.span before place))
+  pub loop_begins : (word : Span) (condition : T.Expr) (t : Token) (n : ℕ)
+      → step (Valued condition (ForLoop word before place)) t n ≡ left_brace t.kind (BlockOpened (InLoop word condition t.span before place))
   unfolding step
   loop_begins word condition t n = refl
 
@@ -95,7 +105,9 @@ module _ (before : List T.Stmt) (place : Place) where
     unfolding finish
     branch_ends word condition total = refl
 
-    pub branch_begins : (word : Span) (condition : T.Expr) (t : Token) (n : ℕ) → step (Valued condition (ForBranch from branches word before place)) t n ≡ left_brace t.kind (BlockOpened (InBranch from branches word condition t.span before place))
+    pub branch_begins : (word : Span) (condition : T.Expr) (t : Token) (n : ℕ)
+        → step (Valued condition (ForBranch from branches word before place)) t n ≡ left_brace t.kind
+        (BlockOpened (InBranch from branches word condition t.span before place))
     unfolding step
     branch_begins word condition t n = refl
 
@@ -113,7 +125,8 @@ module _ (before : List T.Stmt) (place : Place) where
       closes = λ block brace. refl;
     }
 
-    not_branch : (kind : TokenKind) (t : Span) → (kind ≡ k.If → ⊥) → at_branch_else kind t from branches before place ≡ left_brace kind (BlockOpened (InElse from branches t before place))
+    not_branch : (kind : TokenKind) (t : Span) → (kind ≡ k.If → ⊥)
+        → at_branch_else kind t from branches before place ≡ left_brace kind (BlockOpened (InElse from branches t before place))
     not_branch k.If t h = absurd (h refl)
     not_branch k.LeftBrace t h = refl
     not_branch _ t h = refl
@@ -122,7 +135,8 @@ module _ (before : List T.Stmt) (place : Place) where
     unfolding finish
     else_ends total = refl
 
-    pub else_begins : (t : Token) (n : ℕ) → (t.kind ≡ k.If → ⊥) → step (BranchElse from branches before place) t n ≡ left_brace t.kind (BlockOpened (InElse from branches t.span before place))
+    pub else_begins : (t : Token) (n : ℕ) → (t.kind ≡ k.If → ⊥)
+        → step (BranchElse from branches before place) t n ≡ left_brace t.kind (BlockOpened (InElse from branches t.span before place))
     unfolding step
     else_begins t n h = not_branch t.kind t.span h
 
@@ -149,32 +163,41 @@ one_deeper : (levels here rest inner : ℕ) → levels + here ≡ most_levels �
 one_deeper levels here rest inner h g e = omega (arith, h, g, e)
 
 module _ (looping : Bool) where
-  opened_too_deep : (levels total : ℕ) (old : List Token) (x : Braces looping old) → levels + depth x.need ≡ most_levels → Sees k.LeftBrace old → levels ≡ 0 → walk total x.need old ≡ Err (TooDeep (length old))
+  opened_too_deep : (levels total : ℕ) (old : List Token) (x : Braces looping old) → levels + depth x.need ≡ most_levels → Sees k.LeftBrace old → levels ≡ 0
+      → walk total x.need old ≡ Err (TooDeep (length old))
   opened_too_deep levels total [] x fits h g = absurd h
   opened_too_deep levels total (t ∷ ts) x fits h g =
-      walks.deep total x.need (BlockOpened (x.place t.span)) t (t ∷ ts) ts refl (λ n. x.begins t ts refl n ∙ ap (λ kind. left_brace kind (BlockOpened (x.place t.span))) h)
+      walks.deep total x.need (BlockOpened (x.place t.span)) t (t ∷ ts) ts refl (λ n. x.begins t ts refl n
+      ∙ ap (λ kind. left_brace kind (BlockOpened (x.place t.span))) h)
       (deeper levels (depth x.need) (depth_place (x.place t.span)) fits g (x.level t.span))
 
   -- no block begins there, or one level too deep
-  pub unbraced : (levels total : ℕ) (old : List Token) (x : Braces looping old) (e : Stop) → levels + depth x.need ≡ most_levels → OpensNone k.LeftBrace levels old e → Halts e (walk total x.need old)
+  pub unbraced : (levels total : ℕ) (old : List Token) (x : Braces looping old) (e : Stop) → levels + depth x.need ≡ most_levels
+      → OpensNone k.LeftBrace levels old e → Halts e (walk total x.need old)
   unbraced levels total old x stop.NoMemory fits h = absurd h
   unbraced levels total old x (stop.Unexpected left) fits h =
       let lacks = stuck x.need old x.ends (λ t ts e n. x.begins t ts e n ∙ no_left_brace t.kind _ (other_kind k.LeftBrace old h.0 t ts e)) in
       lacks.stops total ∙ ap (λ l. Err (Unexpected l)) (sym h.1)
   unbraced levels total old x (stop.TooDeep left) fits h = opened_too_deep levels total old x fits h.0 h.1 ∙ ap (λ l. Err (TooDeep l)) (sym h.2)
 
-  begins_block : (levels inner total : ℕ) (old mid : List Token) (brace : Span) (x : Braces looping old) → levels + depth x.need ≡ most_levels → inner + 1 ≡ levels → Takes k.LeftBrace old brace mid → Goes inner total x.need old (BlockOpened (x.place brace)) mid
+  begins_block : (levels inner total : ℕ) (old mid : List Token) (brace : Span) (x : Braces looping old) → levels + depth x.need ≡ most_levels
+      → inner + 1 ≡ levels → Takes k.LeftBrace old brace mid → Goes inner total x.need old (BlockOpened (x.place brace)) mid
   begins_block levels inner total old mid brace x fits g w =
-      let f : inner + depth_place (x.place brace) ≡ most_levels = one_deeper levels (depth x.need) inner (depth_place (x.place brace)) fits g (x.level brace) in
+      let f : inner + depth_place (x.place brace) ≡ most_levels =
+      one_deeper levels (depth x.need) inner (depth_place (x.place brace)) fits g (x.level brace) in
       record {
         same = walks.over total x.need (BlockOpened (x.place brace)) w.token old mid w.front
-            (λ n. x.begins w.token mid w.front n ∙ ap (λ kind. left_brace kind (BlockOpened (x.place w.token.span))) w.is ∙ ap (λ b. Some (BlockOpened (x.place b))) w.stands) (walks.fits inner (depth_place (x.place brace)) f);
+            (λ n. x.begins w.token mid w.front n ∙ ap (λ kind. left_brace kind (BlockOpened (x.place w.token.span))) w.is
+            ∙ ap (λ b. Some (BlockOpened (x.place b))) w.stands) (walks.fits inner (depth_place (x.place brace)) f);
         fits = f;
       }
 
-  pub braced : (levels inner : ℕ) (old mid new : List Token) (brace : Span) (r : Result Block Stop) → inner + 1 ≡ levels → Takes k.LeftBrace old brace mid → ReadsBlock brace looping inner mid r new → ReadsBraces looping levels old r new
+  pub braced : (levels inner : ℕ) (old mid new : List Token) (brace : Span) (r : Result Block Stop) → inner + 1 ≡ levels → Takes k.LeftBrace old brace mid
+      → ReadsBlock brace looping inner mid r new → ReadsBraces looping levels old r new
   braced levels inner old mid new brace r g w =
       let inside : Braces looping old → Opened brace looping = λ x. record { place = x.place brace; opens = x.opens brace; loops = x.loops brace } in
-      let begun = λ (total : ℕ) (x : Braces looping old) (fits : levels + depth x.need ≡ most_levels). begins_block levels inner total old mid brace x fits g w in
-      walks.leads levels inner block_of (λ x. x.need) (λ block x. x.behind block) (λ (x : Opened brace looping). BlockOpened x.place) (λ block x. blocked block x.place) old mid new r inside
+      let begun = λ (total : ℕ) (x : Braces looping old) (fits : levels + depth x.need ≡ most_levels). begins_block levels inner total old mid brace x fits
+      g w in
+      walks.leads levels inner block_of (λ x. x.need) (λ block x. x.behind block) (λ (x : Opened brace looping). BlockOpened x.place)
+      (λ block x. blocked block x.place) old mid new r inside
       (λ total x fits. (begun total x fits).same) (λ x fits. (begun 0 x fits).fits) (λ total block x. ap (λ s. walk total s new) (x.closes block brace))

@@ -17,15 +17,20 @@ block_at b = ap T.at_block (block_is b)
 pub ruleset stmt_parts = (stmt_variants, made_block_is, type_at, expr_at, block_at)
 
 -- `while` is no name in an attribute of the code.
-pub made_while : (word : Span) (condition : Expr) (body : Block) → stmt_kind_of (K.While word condition body) (node.at word.from (out-Block body).span.to) ≡ node.while word (expr_of condition) (block_of body)
+pub made_while : (word : Span) (condition : Expr) (body : Block)
+    → stmt_kind_of (K.While word condition body) (node.at word.from (out-Block body).span.to) ≡ node.while word (expr_of condition) (block_of body)
 unfolding node.while
-made_while word condition body = while_is word condition body _ ∙ ap (λ to. T.While word (expr_of condition) (block_of body) (node.at word.from to)) (sym (ap (λ at. at.span.to) (block_at body)))
+made_while word condition body = while_is word condition body _
+    ∙ ap (λ to. T.While word (expr_of condition) (block_of body) (node.at word.from to)) (sym (ap (λ at. at.span.to) (block_at body)))
 
-pub made_if : (from : ℕ) (branches : List Branch) (to : ℕ) → stmt_kind_of (K.If branches None) (node.at from to) ≡ node.if_only from (map branch_of branches) to
+pub made_if : (from : ℕ) (branches : List Branch) (to : ℕ) → stmt_kind_of (K.If branches None) (node.at from to)
+    ≡ node.if_only from (map branch_of branches) to
 unfolding node.if_only
 made_if from branches to = if_is branches None (node.at from to)
 
-pub made_if_else : (from : ℕ) (branches : List Branch) (otherwise : Block) → stmt_kind_of (K.If branches (Some otherwise)) (node.at from (out-Block otherwise).span.to) ≡ node.if_block from (map branch_of branches) (block_of otherwise)
+pub made_if_else : (from : ℕ) (branches : List Branch) (otherwise : Block)
+    → stmt_kind_of (K.If branches (Some otherwise)) (node.at from (out-Block otherwise).span.to) ≡ node.if_block from (map branch_of branches)
+    (block_of otherwise)
 unfolding node.if_block
 made_if_else from branches otherwise =
     if_is branches (Some otherwise) (node.at from (out-Block otherwise).span.to)

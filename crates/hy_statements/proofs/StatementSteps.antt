@@ -14,7 +14,9 @@ use Rattle.hy_grammar.specs.Machine.{step, finish}
 use Rattle.hy_grammar.specs.Nodes as node
 use Rattle.hy_grammar.specs.OperandSteps.{beginning, at_operand}
 use Rattle.hy_grammar.specs.ExprSteps.{at_target, at_compound}
-use Rattle.hy_grammar.specs.Stack.{Place, State, StmtWanted, StmtRead, BindingWord, BindingName, BindingType, DiscardWord, ReturnWord, BranchRead, BranchElse, Operand, Valued, TypeWanted, ForTarget, ForBinding, ForAssigned, ForCompound, ForDiscard, ForReturn, ForYield, ForBranch, ForLoop, ForVariable, depth, depth_place, in_loop}
+use Rattle.hy_grammar.specs.Stack.{Place, State, StmtWanted, StmtRead, BindingWord, BindingName, BindingType, DiscardWord, ReturnWord, BranchRead}
+use Rattle.hy_grammar.specs.Stack.{BranchElse, Operand, Valued, TypeWanted, ForTarget, ForBinding, ForAssigned, ForCompound, ForDiscard, ForReturn}
+use Rattle.hy_grammar.specs.Stack.{ForYield, ForBranch, ForLoop, ForVariable, depth, depth_place, in_loop}
 use Rattle.hy_grammar.specs.StmtSteps.{at_statement, at_stmt_read, at_binding_name, at_binding_type, at_declared, at_return, at_branch_read}
 use Rattle.hy_statements.specs.StatementWords.{word_of, TakesWord, LacksWord, TakesCompound, LacksCompound, begins_line, ends_before, ends_here}
 use Rattle.hy_phrases.specs.Wanted.{Sees, Takes, TakesName, LacksName}
@@ -28,7 +30,7 @@ no_more n = omega arith
 
 -- ---- a statement begins
 
--- behind the word that begins a statement
+-- after the word that begins a statement
 abbrev pub at_word : StmtWord → Span → List T.Stmt → Place → State
 at_word (word.Bind i) t before place = BindingWord i t before place
 at_word word.Discard t before place = DiscardWord t before place
@@ -44,7 +46,8 @@ begun (Some which) kind t before place = Some (at_word which t before place)
 begun None kind t before place = at_operand kind t (beginning (ForTarget before place))
 
 module _ (before : List T.Stmt) (place : Place) where
-  by_word : (looping : Bool) (kind : TokenKind) (t : Token) → in_loop place ≡ looping → at_statement kind t before place ≡ begun (word_of looping kind) kind t.span before place
+  by_word : (looping : Bool) (kind : TokenKind) (t : Token) → in_loop place ≡ looping
+      → at_statement kind t before place ≡ begun (word_of looping kind) kind t.span before place
   by_word looping k.Var t h = refl
   by_word looping k.Let t h = refl
   by_word looping k.Inout t h = refl
@@ -69,28 +72,33 @@ module _ (before : List T.Stmt) (place : Place) where
   level_word word.Continue t = refl
   level_word word.Yield t = no_more (depth_place place)
 
-  pub to_word : {looping : Bool} {old new : List Token} {which : StmtWord} {span : Span} (chosen : StmtWord) → which ≡ chosen → in_loop place ≡ looping → TakesWord looping old which span new → Over (StmtWanted before place) old (at_word chosen span before place) new
+  pub to_word : {looping : Bool} {old new : List Token} {which : StmtWord} {span : Span} (chosen : StmtWord) → which ≡ chosen → in_loop place ≡ looping
+      → TakesWord looping old which span new → Over (StmtWanted before place) old (at_word chosen span before place) new
   unfolding step
   to_word {looping = looping} {which = which} {span = span} chosen is h w = record {
     token = w.token;
     front = w.front;
-    moves = λ n. by_word looping w.token.kind w.token h ∙ ap (λ o. begun o w.token.kind w.token.span before place) (w.is ∙ ap Some is) ∙ ap (λ t. Some (at_word chosen t before place)) w.stands;
+    moves = λ n. by_word looping w.token.kind w.token h ∙ ap (λ o. begun o w.token.kind w.token.span before place) (w.is ∙ ap Some is)
+        ∙ ap (λ t. Some (at_word chosen t before place)) w.stands;
     level = level_word chosen span;
   }
 
   -- every other token goes on as at the beginning of an expression
-  pub to_target : {looping : Bool} (old : List Token) → in_loop place ≡ looping → LacksWord looping old → Alike (StmtWanted before place) old (Operand (beginning (ForTarget before place)))
+  pub to_target : {looping : Bool} (old : List Token) → in_loop place ≡ looping → LacksWord looping old
+      → Alike (StmtWanted before place) old (Operand (beginning (ForTarget before place)))
   unfolding step finish
   to_target {looping = looping} old h lacks = alike _ _ old (no_more (depth_place place)) (λ total. refl)
-      (λ t ts e n. let w : LacksWord looping (t ∷ ts) = subst (LacksWord looping) e lacks in by_word looping t.kind t h ∙ ap (λ o. begun o t.kind t.span before place) w)
+      (λ t ts e n. let w : LacksWord looping (t ∷ ts) = subst (LacksWord looping) e lacks in by_word looping t.kind t h
+      ∙ ap (λ o. begun o t.kind t.span before place) w)
 
-  -- ---- behind a statement
+  -- ---- after a statement
 
   pub to_semicolon : {old new : List Token} {span : Span} → Takes k.Semicolon old span new → Over (StmtRead before place) old (StmtWanted before place) new
   unfolding step
   to_semicolon w = leads w (λ n. rw (w.is, step) refl) refl
 
-  next_line : (kind : TokenKind) (t : Token) → (kind ≡ k.Semicolon → ⊥) → (kind ≡ k.RightBrace → ⊥) → at_stmt_read kind t before place ≡ (if t.first then at_statement kind t before place else None)
+  next_line : (kind : TokenKind) (t : Token) → (kind ≡ k.Semicolon → ⊥) → (kind ≡ k.RightBrace → ⊥)
+      → at_stmt_read kind t before place ≡ (if t.first then at_statement kind t before place else None)
   next_line k.Semicolon t h g = absurd (h refl)
   next_line k.RightBrace t h g = absurd (g refl)
   next_line _ t h g = refl
@@ -99,30 +107,37 @@ module _ (before : List T.Stmt) (place : Place) where
     pub on_next_line : begins_line old ≡ true → Alike (StmtRead before place) old (StmtWanted before place)
     unfolding step finish
     on_next_line h = alike _ _ old refl (λ total. refl)
-        (λ t ts e n. let first : t.first ≡ true = sym (ap begins_line e) ∙ h in next_line t.kind t (other_kind _ old no_semicolon t ts e) (other_kind _ old no_brace t ts e) ∙ rw first refl)
+        (λ t ts e n. let first : t.first ≡ true = sym (ap begins_line e) ∙ h in
+        next_line t.kind t (other_kind _ old no_semicolon t ts e) (other_kind _ old no_brace t ts e) ∙ rw first refl)
 
     pub on_same_line : begins_line old ≡ false → Stuck (StmtRead before place) old
     unfolding step finish
     on_same_line h = stuck _ old (λ total. refl)
-        (λ t ts e n. let first : t.first ≡ false = sym (ap begins_line e) ∙ h in next_line t.kind t (other_kind _ old no_semicolon t ts e) (other_kind _ old no_brace t ts e) ∙ rw first refl)
+        (λ t ts e n. let first : t.first ≡ false = sym (ap begins_line e) ∙ h in
+        next_line t.kind t (other_kind _ old no_semicolon t ts e) (other_kind _ old no_brace t ts e) ∙ rw first refl)
 
   -- ---- bindings
 
   module _ (i : Introducer) (word : Span) where
-    pub to_name : {old new : List Token} {name : Name} → TakesName old name new → Over (BindingWord i word before place) old (BindingName i word name before place) new
+    pub to_name : {old new : List Token} {name : Name} → TakesName old name new
+        → Over (BindingWord i word before place) old (BindingName i word name before place) new
     unfolding step
     to_name w = record { token = w.token; front = w.front; moves = λ n. rw (w.is, w.stands, step) refl; level = refl }
 
     pub no_name : (old : List Token) → LacksName old → Stuck (BindingWord i word before place) old
     unfolding step finish
-    no_name old h = stuck _ old (λ total. refl) (λ t ts e n. no_text t.kind (λ text. BindingName i word (node.spelled text t.span) before place) (let lacks : LacksName (t ∷ ts) = subst LacksName e h in lacks))
+    no_name old h =
+        stuck _ old (λ total. refl) (λ t ts e n. no_text t.kind (λ text. BindingName i word (node.spelled text t.span) before place)
+        (let lacks : LacksName (t ∷ ts) = subst LacksName e h in lacks))
 
     module _ (name : Name) where
-      pub to_colon : {old new : List Token} {span : Span} → Takes k.Colon old span new → Over (BindingName i word name before place) old (TypeWanted (ForVariable i word name before place)) new
+      pub to_colon : {old new : List Token} {span : Span} → Takes k.Colon old span new
+          → Over (BindingName i word name before place) old (TypeWanted (ForVariable i word name before place)) new
       unfolding step
       to_colon w = leads w (λ n. rw (w.is, step) refl) refl
 
-      pub to_value : {old new : List Token} {span : Span} → Takes k.Equal old span new → Over (BindingName i word name before place) old (Operand (beginning (ForBinding i word name None before place))) new
+      pub to_value : {old new : List Token} {span : Span} → Takes k.Equal old span new
+          → Over (BindingName i word name before place) old (Operand (beginning (ForBinding i word name None before place))) new
       unfolding step
       to_value w = leads w (λ n. rw (w.is, step) refl) (no_more (depth_place place))
 
@@ -135,37 +150,47 @@ module _ (before : List T.Stmt) (place : Place) where
       unfolding step finish
       no_value old h g = stuck _ old (λ total. refl) (λ t ts e n. not_bound t.kind (other_kind _ old h t ts e) (other_kind _ old g t ts e))
 
-      pub to_typed_value : {written : T.TypeExp} {old new : List Token} {span : Span} → Takes k.Equal old span new → Over (BindingType i word name written before place) old (Operand (beginning (ForBinding i word name (Some written) before place))) new
+      pub to_typed_value : {written : T.TypeExp} {old new : List Token} {span : Span} → Takes k.Equal old span new
+          → Over (BindingType i word name written before place) old (Operand (beginning (ForBinding i word name (Some written) before place))) new
       unfolding step
       to_typed_value w = leads w (λ n. rw (w.is, step) refl) (no_more (depth_place place))
 
-      pub bound : (written : Option T.TypeExp) (e : T.Expr) (old : List Token) → Alike (Valued e (ForBinding i word name written before place)) old (StmtRead (before ++ node.binding i word name written e ∷ []) place)
+      pub bound : (written : Option T.TypeExp) (e : T.Expr) (old : List Token)
+          → Alike (Valued e (ForBinding i word name written before place)) old (StmtRead (before ++ node.binding i word name written e ∷ []) place)
       unfolding step finish
       bound written e old = alike _ _ old refl (λ total. refl) (λ t ts w n. refl)
 
-      not_typed : (kind : TokenKind) (t : Token) (written : T.TypeExp) → (kind ≡ k.Equal → ⊥) → at_binding_type kind t i word name written before place ≡ at_declared i t word name written before place
+      not_typed : (kind : TokenKind) (t : Token) (written : T.TypeExp) → (kind ≡ k.Equal → ⊥)
+          → at_binding_type kind t i word name written before place ≡ at_declared i t word name written before place
       not_typed k.Equal t written h = absurd (h refl)
       not_typed _ t written h = refl
 
   module _ (word : Span) (name : Name) (written : T.TypeExp) (old : List Token) (no_value_comes : Sees k.Equal old → ⊥) where
     declared_var : Alike (BindingType introducer.Var word name written before place) old (StmtRead (before ++ node.declare word name written ∷ []) place)
     unfolding step finish
-    declared_var = alike _ _ old refl (λ total. refl) (λ t ts e n. not_typed introducer.Var word name t.kind t written (other_kind _ old no_value_comes t ts e))
+    declared_var = alike _ _ old refl (λ total. refl) (λ t ts e n. not_typed introducer.Var word
+        name t.kind t written (other_kind _ old no_value_comes t ts e))
 
     -- `var` alone may leave the value out
-    pub declared : (i : Introducer) → i ≡ introducer.Var → Alike (BindingType i word name written before place) old (StmtRead (before ++ node.declare word name written ∷ []) place)
-    declared i is = subst (λ j. Alike (BindingType j word name written before place) old (StmtRead (before ++ node.declare word name written ∷ []) place)) (sym is) declared_var
+    pub declared : (i : Introducer) → i ≡ introducer.Var
+        → Alike (BindingType i word name written before place) old (StmtRead (before ++ node.declare word name written ∷ []) place)
+    declared i is =
+        subst (λ j. Alike (BindingType j word name written before place) old (StmtRead (before ++ node.declare word name written ∷ []) place)) (sym is)
+        declared_var
 
     pub not_declared : (i : Introducer) → (i ≡ introducer.Var → ⊥) → Stuck (BindingType i word name written before place) old
     unfolding step finish
     not_declared introducer.Var h = absurd (h refl)
-    not_declared introducer.Let h = stuck _ old (λ total. refl) (λ t ts e n. not_typed introducer.Let word name t.kind t written (other_kind _ old no_value_comes t ts e))
-    not_declared introducer.Inout h = stuck _ old (λ total. refl) (λ t ts e n. not_typed introducer.Inout word name t.kind t written (other_kind _ old no_value_comes t ts e))
+    not_declared introducer.Let h =
+        stuck _ old (λ total. refl) (λ t ts e n. not_typed introducer.Let word name t.kind t written (other_kind _ old no_value_comes t ts e))
+    not_declared introducer.Inout h =
+        stuck _ old (λ total. refl) (λ t ts e n. not_typed introducer.Inout word name t.kind t written (other_kind _ old no_value_comes t ts e))
 
   -- ---- assignments
 
   module _ (word : Span) where
-    pub to_discarded : {old new : List Token} {span : Span} → Takes k.Equal old span new → Over (DiscardWord word before place) old (Operand (beginning (ForDiscard word before place))) new
+    pub to_discarded : {old new : List Token} {span : Span} → Takes k.Equal old span new
+        → Over (DiscardWord word before place) old (Operand (beginning (ForDiscard word before place))) new
     unfolding step
     to_discarded w = leads w (λ n. rw (w.is, step) refl) (no_more (depth_place place))
 
@@ -181,22 +206,26 @@ module _ (before : List T.Stmt) (place : Place) where
     unfolding step finish
     yielded e old = alike _ _ old refl (λ total. refl) (λ t ts w n. refl)
 
-    pub returned : (e : T.Expr) (old : List Token) → Alike (Valued e (ForReturn word before place)) old (StmtRead (before ++ node.return_value word e ∷ []) place)
+    pub returned : (e : T.Expr) (old : List Token)
+        → Alike (Valued e (ForReturn word before place)) old (StmtRead (before ++ node.return_value word e ∷ []) place)
     unfolding step finish
     returned e old = alike _ _ old refl (λ total. refl) (λ t ts w n. refl)
 
     -- `return`
-    return_ends : (kind : TokenKind) (t : Token) → ends_before kind t.first ≡ true → at_return kind t word before place ≡ at_stmt_read kind t (before ++ node.return_nothing word ∷ []) place
+    return_ends : (kind : TokenKind) (t : Token) → ends_before kind t.first ≡ true
+        → at_return kind t word before place ≡ at_stmt_read kind t (before ++ node.return_nothing word ∷ []) place
     return_ends k.Semicolon t h = refl
     return_ends k.RightBrace t h = refl
     return_ends _ t h = rw h refl
 
-    return_goes : (kind : TokenKind) (t : Token) → ends_before kind t.first ≡ false → at_return kind t word before place ≡ at_operand kind t.span (beginning (ForReturn word before place))
+    return_goes : (kind : TokenKind) (t : Token) → ends_before kind t.first ≡ false
+        → at_return kind t word before place ≡ at_operand kind t.span (beginning (ForReturn word before place))
     return_goes k.Semicolon t h = cc
     return_goes k.RightBrace t h = cc
     return_goes _ t h = rw h refl
 
-    pub returned_nothing : (old : List Token) → ends_here old ≡ true → Alike (ReturnWord word before place) old (StmtRead (before ++ node.return_nothing word ∷ []) place)
+    pub returned_nothing : (old : List Token) → ends_here old ≡ true
+        → Alike (ReturnWord word before place) old (StmtRead (before ++ node.return_nothing word ∷ []) place)
     unfolding step finish
     returned_nothing old h = alike _ _ old refl (λ total. refl) (λ t ts e n. return_ends t.kind t (sym (ap ends_here e) ∙ h))
 
@@ -205,51 +234,69 @@ module _ (before : List T.Stmt) (place : Place) where
     to_returned old h = alike _ _ old (no_more (depth_place place)) (λ total. refl) (λ t ts e n. return_goes t.kind t (sym (ap ends_here e) ∙ h))
 
   module _ (target : T.Expr) where
-    pub to_assigned : {old new : List Token} {span : Span} → Takes k.Equal old span new → Over (Valued target (ForTarget before place)) old (Operand (beginning (ForAssigned target before place))) new
+    pub to_assigned : {old new : List Token} {span : Span} → Takes k.Equal old span new
+        → Over (Valued target (ForTarget before place)) old (Operand (beginning (ForAssigned target before place))) new
     unfolding step
     to_assigned w = leads w (λ n. rw (w.is, step) refl) (no_more (depth_place place))
 
-    pub assigned : (e : T.Expr) (old : List Token) → Alike (Valued e (ForAssigned target before place)) old (StmtRead (before ++ node.assign target e ∷ []) place)
+    pub assigned : (e : T.Expr) (old : List Token)
+        → Alike (Valued e (ForAssigned target before place)) old (StmtRead (before ++ node.assign target e ∷ []) place)
     unfolding step finish
     assigned e old = alike _ _ old refl (λ total. refl) (λ t ts w n. refl)
 
-    pub compounded : (operator : Arithmetic) (e : T.Expr) (old : List Token) → Alike (Valued e (ForCompound target operator before place)) old (StmtRead (before ++ node.compound target operator e ∷ []) place)
+    pub compounded : (operator : Arithmetic) (e : T.Expr) (old : List Token)
+        → Alike (Valued e (ForCompound target operator before place)) old (StmtRead (before ++ node.compound target operator e ∷ []) place)
     unfolding step finish
     compounded operator e old = alike _ _ old refl (λ total. refl) (λ t ts w n. refl)
 
-    not_assigned : (kind : TokenKind) (t : Token) → (kind ≡ k.Equal → ⊥) → at_target kind t target before place ≡ at_compound (compound_of kind) t target before place
+    not_assigned : (kind : TokenKind) (t : Token) → (kind ≡ k.Equal → ⊥)
+        → at_target kind t target before place ≡ at_compound (compound_of kind) t target before place
     not_assigned k.Equal t h = absurd (h refl)
     not_assigned _ t h = refl
 
     is_compound : (kind : TokenKind) (operator : Arithmetic) → compound_of kind ≡ Some operator → kind ≡ k.Equal → ⊥
     is_compound kind operator h e = let no : None ≡ Some operator = sym (ap compound_of e) ∙ h in cc
 
-    compound_step : (t : Token) (n : ℕ) (operator : Arithmetic) → compound_of t.kind ≡ Some operator → step (Valued target (ForTarget before place)) t n ≡ Some (Operand (beginning (ForCompound target operator before place)))
+    compound_step : (t : Token) (n : ℕ) (operator : Arithmetic) → compound_of t.kind ≡ Some operator
+        → step (Valued target (ForTarget before place)) t n ≡ Some (Operand (beginning (ForCompound target operator before place)))
     unfolding step
     compound_step t n operator h = not_assigned t.kind t (is_compound t.kind operator h) ∙ ap (λ o. at_compound o t target before place) h
 
-    pub to_compound : {operator : Arithmetic} {old new : List Token} → TakesCompound old operator new → Over (Valued target (ForTarget before place)) old (Operand (beginning (ForCompound target operator before place))) new
-    to_compound {operator = operator} w = record { token = w.token; front = w.front; moves = λ n. compound_step w.token n operator w.is; level = no_more (depth_place place) }
+    pub to_compound : {operator : Arithmetic} {old new : List Token} → TakesCompound old operator new
+        → Over (Valued target (ForTarget before place)) old (Operand (beginning (ForCompound target operator before place))) new
+    to_compound {operator = operator} w = record {
+      token = w.token;
+      front = w.front;
+      moves = λ n. compound_step w.token n operator w.is;
+      level =
+          no_more (depth_place place);
+    }
 
-    pub evaluated : (old : List Token) → (Sees k.Equal old → ⊥) → LacksCompound old → Alike (Valued target (ForTarget before place)) old (StmtRead (before ++ node.evaluate target ∷ []) place)
+    pub evaluated : (old : List Token) → (Sees k.Equal old → ⊥) → LacksCompound old
+        → Alike (Valued target (ForTarget before place)) old (StmtRead (before ++ node.evaluate target ∷ []) place)
     unfolding step finish
-    evaluated old h g = alike _ _ old refl (λ total. refl) (λ t ts e n. not_assigned t.kind t (other_kind _ old h t ts e) ∙ ap (λ o. at_compound o t target before place) (let w : LacksCompound (t ∷ ts) = subst LacksCompound e g in w))
+    evaluated old h g = alike _ _ old refl (λ total. refl) (λ t ts e n. not_assigned t.kind t (other_kind _ old h t ts e)
+        ∙ ap (λ o. at_compound o t target before place) (let w : LacksCompound (t ∷ ts) = subst LacksCompound e g in w))
 
   -- ---- blocks in statements
 
   module _ (from : ℕ) (branches : List T.Branch) where
-    pub to_else : {to : ℕ} {old new : List Token} {span : Span} → Takes k.Else old span new → Over (BranchRead from branches to before place) old (BranchElse from branches before place) new
+    pub to_else : {to : ℕ} {old new : List Token} {span : Span} → Takes k.Else old span new
+        → Over (BranchRead from branches to before place) old (BranchElse from branches before place) new
     unfolding step
     to_else w = leads w (λ n. rw (w.is, step) refl) refl
 
-    not_else : (kind : TokenKind) (t : Token) (to : ℕ) → (kind ≡ k.Else → ⊥) → at_branch_read kind t from branches to before place ≡ at_stmt_read kind t (before ++ node.if_only from branches to ∷ []) place
+    not_else : (kind : TokenKind) (t : Token) (to : ℕ) → (kind ≡ k.Else → ⊥)
+        → at_branch_read kind t from branches to before place ≡ at_stmt_read kind t (before ++ node.if_only from branches to ∷ []) place
     not_else k.Else t to h = absurd (h refl)
     not_else _ t to h = refl
 
-    pub no_else : (to : ℕ) (old : List Token) → (Sees k.Else old → ⊥) → Alike (BranchRead from branches to before place) old (StmtRead (before ++ node.if_only from branches to ∷ []) place)
+    pub no_else : (to : ℕ) (old : List Token) → (Sees k.Else old → ⊥)
+        → Alike (BranchRead from branches to before place) old (StmtRead (before ++ node.if_only from branches to ∷ []) place)
     unfolding step finish
     no_else to old h = alike _ _ old refl (λ total. refl) (λ t ts e n. not_else t.kind t to (other_kind _ old h t ts e))
 
-    pub to_else_if : {old new : List Token} {span : Span} → Takes k.If old span new → Over (BranchElse from branches before place) old (Operand (beginning (ForBranch from branches span before place))) new
+    pub to_else_if : {old new : List Token} {span : Span} → Takes k.If old span new
+        → Over (BranchElse from branches before place) old (Operand (beginning (ForBranch from branches span before place))) new
     unfolding step
     to_else_if w = leads w (λ n. rw (w.is, w.stands, step) refl) (no_more (depth_place place))

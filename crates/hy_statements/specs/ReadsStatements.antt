@@ -13,7 +13,7 @@ use Rattle.hy_grammar.specs.Stack.{Place, State, BlockOpened, StmtWanted, StmtRe
 use Rattle.hy_grammar.specs.StmtSteps.{blocked, brace_of, close}
 use Rattle.hy_phrases.specs.declared.stop.Stop.{Stop}
 
--- where a statement stands: behind these, in that block
+-- where a statement stands: after these, in that block
 pub record Site : Type 0 where
   pub before : List T.Stmt
   pub place : Place
@@ -29,7 +29,7 @@ pub record Opened (brace : Span) (looping : Bool) : Type 0 where
   pub opens : brace_of place ≡ brace
   pub loops : in_loop place ≡ looping
 
--- whose block is to come, of which the first of these tokens is the brace, and what comes behind it
+-- whose block is to come, of which the first of these tokens is the brace, and what comes after it
 pub record Braces (looping : Bool) (old : List Token) : Type 0 where
   pub need : State
   pub place : Span → Place
@@ -41,7 +41,7 @@ pub record Braces (looping : Bool) (old : List Token) : Type 0 where
   pub loops : (brace : Span) → in_loop (place brace) ≡ looping
   pub closes : (block : T.Block) (brace : Span) → blocked block (place brace) ≡ behind block
 
--- the state behind a statement
+-- the state after a statement
 abbrev pub with_stmt : T.Stmt → Site → State
 with_stmt stmt x = StmtRead (x.before ++ stmt ∷ []) x.place
 
@@ -52,7 +52,7 @@ ReadsStmt levels need = Reads levels stmt_of need with_stmt
 abbrev pub ReadsStmtIn : Bool → ℕ → (Site → State) → List Token → Result Stmt Stop → List Token → Type 0
 ReadsStmtIn looping levels need = Reads {X = LoopSite looping} levels stmt_of (λ x. need x.site) (λ stmt x. with_stmt stmt x.site)
 
--- a block behind its brace
+-- a block after its brace
 abbrev pub ReadsBlock : Span → Bool → ℕ → List Token → Result Block Stop → List Token → Type 0
 ReadsBlock brace looping levels = Reads {X = Opened brace looping} levels block_of (λ x. BlockOpened x.place) (λ block x. blocked block x.place)
 
@@ -60,7 +60,7 @@ ReadsBlock brace looping levels = Reads {X = Opened brace looping} levels block_
 abbrev pub ReadsBraces : Bool → ℕ → List Token → Result Block Stop → List Token → Type 0
 ReadsBraces looping levels old = Reads {X = Braces looping old} levels block_of (λ x. x.need) (λ block x. x.behind block) old
 
--- behind what stands after a statement: a `}`, or what separates it from the next
+-- after what stands after a statement: a `}`, or what separates it from the next
 abbrev pub separated : Option Span → Site → State
 separated (Some t) x = close x.before x.place t
 separated None x = StmtWanted x.before x.place

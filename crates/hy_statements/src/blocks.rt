@@ -15,7 +15,7 @@ use hy_tree::{Block, Stmt};
 use sqlite_items::Items;
 use std::alloc::Global;
 
-/// Reads what stands behind a statement: the `}` of its block, of which it gives the span, or what separates it from the next.
+/// Reads what stands after a statement: the `}` of its block, of which it gives the span, or what separates it from the next.
 pub fn read_separator(tokens: &mut Tokens<'_>) -> Result<Option<Span>, Stop>
     ensures reads { ReadsSeparator tokens.old.rest.now result tokens.new.rest.now }
     ensures within { length tokens.new.rest.now ≤ length tokens.old.rest.now }
@@ -32,7 +32,7 @@ pub fn read_separator(tokens: &mut Tokens<'_>) -> Result<Option<Span>, Stop>
     Ok(None)
 }
 
-/// A block behind its `{`, which is at `brace` and counted in `levels`: so many may still be opened. `looping` says whether
+/// A block after its `{`, which is at `brace` and counted in `levels`: so many may still be opened. `looping` says whether
 /// a `break` may stand in it.
 #[cycle(blocks)]
 pub fn read_block(
@@ -102,7 +102,7 @@ pub fn read_stmt(
     }
 }
 
-/// What stands behind `while`.
+/// What stands after `while`.
 #[cycle(blocks)]
 pub fn read_while(
     alloc: Global,
@@ -118,7 +118,7 @@ pub fn read_while(
     Ok(repeat(word, condition, body))
 }
 
-/// What stands behind `if`, with each `else if` and `else`.
+/// What stands after `if`, with each `else if` and `else`.
 #[cycle(blocks)]
 pub fn read_if(
     alloc: Global,
@@ -127,7 +127,8 @@ pub fn read_if(
     looping: bool,
     first: Span,
 ) -> Result<Stmt, Stop>
-    ensures reads { ReadsStmtIn looping levels (λ x. Operand (beginning (ForBranch first.from [] first x.before x.place))) tokens.old.rest.now result tokens.new.rest.now }
+    ensures reads { ReadsStmtIn looping levels (λ x. Operand (beginning (ForBranch first.from [] first x.before x.place))) tokens.old.rest.now result
+        tokens.new.rest.now }
     ensures within { length tokens.new.rest.now ≤ length tokens.old.rest.now }
 {
     let mut branches = Items::new(alloc);

@@ -1,4 +1,4 @@
-// Statements without blocks are read, each behind the word that it begins with.
+// Statements without blocks are read, each after the word that it begins with.
 ghost use Rattle.std.specs.Prelude.{◌≤◌, ◌<◌, length, OnOk};
 ghost use Rattle.hy_grammar.specs.OperandSteps.{beginning};
 ghost use Rattle.hy_statements.specs.ReadsStatements.{ReadsStmt};
@@ -15,7 +15,7 @@ use hy_phrases::{Mark, Stop, Tokens, read_type};
 use hy_tree::{Introducer, Name, Stmt};
 use std::alloc::Global;
 
-/// A binding, behind `var`, `let` or `inout`. So many levels may still be opened, here and below.
+/// A binding, after `var`, `let` or `inout`. So many levels may still be opened, here and below.
 pub fn read_binding(
     alloc: Global,
     tokens: &mut Tokens<'_>,
@@ -35,7 +35,7 @@ pub fn read_binding(
     Ok(binding(introducer, word, name, None, value))
 }
 
-/// A binding with a written type, behind its `:`. A `var` may leave the value out.
+/// A binding with a written type, after its `:`. A `var` may leave the value out.
 pub fn read_typed_binding(
     alloc: Global,
     tokens: &mut Tokens<'_>,
@@ -58,7 +58,7 @@ pub fn read_typed_binding(
     }
 }
 
-/// `_ = value`, behind the `_`.
+/// `_ = value`, after the `_`.
 pub fn read_discard(
     alloc: Global,
     tokens: &mut Tokens<'_>,
@@ -91,7 +91,7 @@ pub fn read_target(alloc: Global, tokens: &mut Tokens<'_>, levels: usize) -> Res
     Ok(evaluate(target))
 }
 
-/// What stands behind `return`.
+/// What stands after `return`.
 pub fn read_return(
     alloc: Global,
     tokens: &mut Tokens<'_>,
@@ -108,7 +108,7 @@ pub fn read_return(
     Ok(return_value(word, value))
 }
 
-/// What stands behind `yield`.
+/// What stands after `yield`.
 pub fn read_yield(
     alloc: Global,
     tokens: &mut Tokens<'_>,

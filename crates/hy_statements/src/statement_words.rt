@@ -64,7 +64,8 @@ pub fn compound_of(kind: &TokenKind) -> Option<Arithmetic>
 
 /// Takes the word that begins a statement, if one comes next.
 pub fn take_word(tokens: &mut Tokens<'_>, looping: bool) -> Option<(StmtWord, Span)>
-    ensures token { MatchOption result (LacksWord looping tokens.old.rest.now × (tokens.new.rest.now ≡ tokens.old.rest.now)) (λ taken. TakesWord looping tokens.old.rest.now taken.0 taken.1 tokens.new.rest.now) }
+    ensures token { MatchOption result (LacksWord looping tokens.old.rest.now × (tokens.new.rest.now ≡ tokens.old.rest.now))
+        (λ taken. TakesWord looping tokens.old.rest.now taken.0 taken.1 tokens.new.rest.now) }
     ensures within { length tokens.new.rest.now ≤ length tokens.old.rest.now }
     ensures progress { OnSome result (length tokens.new.rest.now < length tokens.old.rest.now) }
 {
@@ -76,7 +77,8 @@ pub fn take_word(tokens: &mut Tokens<'_>, looping: bool) -> Option<(StmtWord, Sp
 
 /// Takes the operator of a compound assignment, if one comes next.
 pub fn take_compound(tokens: &mut Tokens<'_>) -> Option<Arithmetic>
-    ensures token { MatchOption result (LacksCompound tokens.old.rest.now × (tokens.new.rest.now ≡ tokens.old.rest.now)) (λ operator. TakesCompound tokens.old.rest.now operator tokens.new.rest.now) }
+    ensures token { MatchOption result (LacksCompound tokens.old.rest.now × (tokens.new.rest.now ≡ tokens.old.rest.now))
+        (λ operator. TakesCompound tokens.old.rest.now operator tokens.new.rest.now) }
     ensures within { length tokens.new.rest.now ≤ length tokens.old.rest.now }
 {
     let (token, rest) = tokens.rest.split_first()?;

@@ -1,5 +1,6 @@
--- What is seen at the start of a run.
-use Rattle.std.proofs.Common.{◌≡◌, ◌<◌, ◌≤◌, ◌^◌, ℕ, zero, suc, Bool, true, false, nat_eq, cond, List, [], ◌∷◌, replicate, Some, None, slice_get, refl, sym, ap, subst, ◌∙◌, arith}
+-- What is represented at the start of a run.
+use Rattle.std.proofs.Common.{◌≡◌, ◌<◌, ◌≤◌, ◌^◌, ℕ, zero, suc, Bool, true, false, nat_eq, cond, List, [], ◌∷◌, replicate, Some, None, slice_get, refl, sym}
+use Rattle.std.proofs.Common.{ap, subst, ◌∙◌, arith}
 use Rattle.std.proofs.lemmas.Bool.Decides.{nat_tests}
 use Rattle.std.proofs.lemmas.List.{length-replicate}
 use Rattle.hy_links.specs.Chains.{times}
@@ -18,7 +19,7 @@ use Rattle.hy_store.specs.Cells.{Cell, Unset}
 use Rattle.hy_store.specs.Frames.{kept, slot_in, held_at}
 use Rattle.hy_store.specs.Held.{AreHeld, IsBlock}
 use Rattle.hy_store.specs.Memory.{live}
-use Rattle.hy_store.specs.Sees.{AreOpened, Sees, told_slot}
+use Rattle.hy_store.specs.Represents.{AreOpened, Represents, abstract_slot}
 use Rattle.hy_store.proofs.Holding.{tells_unset}
 
 module _ (store : Store) (main : Fun) (begun : IsBegun store main) (small : main.words < 2 ^ 32) where
@@ -33,7 +34,13 @@ module _ (store : Store) (main : Fun) (begun : IsBegun store main) (small : main
   block_at b found h = let p = some_first (nat_eq 0 b) (replicate main.words Unset) found (sym (begun.blocks b) ∙ h) in (zero_is b p.0, p.1)
 
   one_block : IsBlock no_ghosts.is_array 1 main.words 0 0 machine.unset (replicate main.words Unset)
-  one_block = record { live = refl; size = sym (length-replicate main.words Unset); small = omega (arith, length-replicate main.words Unset, small); named = omega arith; tells = tells_unset no_ghosts.is_array 1 main.words }
+  one_block = record {
+    live = refl;
+    size = sym (length-replicate main.words Unset);
+    small = omega (arith, length-replicate main.words Unset, small);
+    named = omega arith;
+    tells = tells_unset no_ghosts.is_array 1 main.words;
+  }
 
   first_words : (b : ℕ) → 0 ≡ b → main.words ≡ with_at (λ n. 0) 0 main.words b
   first_words b h = let P : ℕ → Type 0 = λ n. main.words ≡ with_at (λ n. 0) 0 main.words n in subst P h refl
@@ -41,7 +48,9 @@ module _ (store : Store) (main : Fun) (begun : IsBegun store main) (small : main
   held_first : AreHeld (live store.blocks) no_ghosts.is_array 1 (λ b at. machine.Unset) (with_at (λ b. 0) 0 main.words) (λ b. 0)
   held_first = record {
     known = λ b found h. let p = block_at b found h in
-        let at_zero : IsBlock no_ghosts.is_array 1 (with_at (λ n. 0) 0 main.words b) 0 0 machine.unset found = subst (λ n. IsBlock no_ghosts.is_array 1 n 0 0 machine.unset found) (first_words b p.0) (subst (IsBlock no_ghosts.is_array 1 main.words 0 0 machine.unset) p.1 one_block) in
+        let at_zero : IsBlock no_ghosts.is_array 1 (with_at (λ n. 0) 0 main.words b) 0 0 machine.unset found =
+        subst (λ n. IsBlock no_ghosts.is_array 1 n 0 0 machine.unset found) (first_words b p.0)
+        (subst (IsBlock no_ghosts.is_array 1 main.words 0 0 machine.unset) p.1 one_block) in
         subst (λ n. IsBlock no_ghosts.is_array 1 (with_at (λ n. 0) 0 main.words b) 0 n machine.unset found) p.0 at_zero;
     gone = λ b below h. absurd (there b (zero_of b below) (sym (begun.blocks b) ∙ h));
     fresh = λ b le. refl;
@@ -55,7 +64,8 @@ module _ (store : Store) (main : Fun) (begun : IsBegun store main) (small : main
 
   none_opened : AreOpened store.opened (live store.blocks) 1 no_ghosts.name (λ n. None) 0
   none_opened =
-      let absent : (id : AccId) (one : live_access.Access) → live_access.access id store.opened.accesses ≡ Some one → ⊥ = λ id one h. clash one (sym (ap (live_access.access id) begun.accesses) ∙ h) in
+      let absent : (id : AccId) (one : live_access.Access) → live_access.access id store.opened.accesses ≡ Some one → ⊥ =
+      λ id one h. clash one (sym (ap (live_access.access id) begun.accesses) ∙ h) in
       record {
         told = record {
           known = λ id one h. absurd (absent id one h);
@@ -86,14 +96,16 @@ module _ (store : Store) (main : Fun) (begun : IsBegun store main) (small : main
   empty_at (suc n) zero = refl
   empty_at (suc n) (suc k) = empty_at n k
 
-  pub begun_seen : (object : Object) (input : List ℕ) (cut : Bool) (n : ℕ) → main_of object ≡ main → Sees no_ghosts store main (begin object input cut (suc n))
+  pub begun_seen : (object : Object) (input : List ℕ) (cut : Bool) (n : ℕ) → main_of object ≡ main
+      → Represents no_ghosts store main (begin object input cut (suc n))
   begun_seen object input cut n is = record {
-    held = subst (λ (f : Fun). AreHeld (live store.blocks) no_ghosts.is_array 1 (λ b at. machine.Unset) (with_at (λ b. 0) 0 f.words) (λ b. 0)) (sym is) held_first;
+    held = subst (λ (f : Fun). AreHeld (live store.blocks) no_ghosts.is_array 1 (λ b at. machine.Unset) (with_at (λ b. 0) 0 f.words) (λ b. 0)) (sym is)
+        held_first;
     opened = none_opened;
     frame = begun.frame;
     fun_is = sym is;
     own = (replicate main.words Unset, ap (live store.blocks) begun.frame ∙ begun.blocks 0, length-replicate main.words Unset);
-    slots = λ k. sym (ap told_slot (ap (λ o. slot_in o k) frame_first ∙ empty_at main.slots k));
+    slots = λ k. sym (ap abstract_slot (ap (λ o. slot_in o k) frame_first ∙ empty_at main.slots k));
     mine = (record { slots = replicate main.slots Empty; role = Called 0 }, frame_first, length-replicate main.slots Empty, refl);
     no_array = refl;
     counts = begun.counts;

@@ -1,13 +1,14 @@
 -- Whether a live access was made from another, as the program and as the machine know it.
-use Rattle.std.proofs.Common.{◌≡◌, ℕ, Bool, true, false, not, nat_eq, cond, inl, inr, List, [], ◌∷◌, length, Option, Some, None, is_some, refl, sym, ap, ◌∙◌, arith}
+use Rattle.std.proofs.Common.{◌≡◌, ℕ, Bool, true, false, not, nat_eq, cond, inl, inr, List, [], ◌∷◌, length, Option, Some, None, is_some, refl, sym, ap}
+use Rattle.std.proofs.Common.{◌∙◌, arith}
 use Rattle.std.proofs.lemmas.Bool.Decides.{nat_tests}
 use Rattle.hy_access.specs.declared.access.AccId.{AccId}
 use Rattle.hy_access.specs.Accesses as live
-use Rattle.hy_access.specs.Accesses.{HasChild, IsLive, IsLiveIfGiven, Leads, itself, above}
+use Rattle.hy_access.specs.Accesses.{HasChild, IsLive, IsLiveIfGiven, HasAncestor, itself, above}
 use Rattle.hy_object.specs.Lending.{lets_close}
 use Rattle.hy_object.specs.States as machine
 use Rattle.hy_object.specs.States.{State, all_below, member}
-use Rattle.hy_store.specs.Opened.{AreTold, Opened, chain_in, chain_of, told_access}
+use Rattle.hy_store.specs.Opened.{RepresentAccesses, Opened, chain_in, chain_of, abstract_access}
 use Rattle.hy_store.proofs.Chains.{at_head, chain_is, found, in_tail, parent_found, parent_lives, split_member, through_then}
 use Rattle.hy_store.proofs.Counted.{all_below_if, some_fails}
 use Rattle.hy_store.proofs.Holding.{same_or_other}
@@ -20,9 +21,10 @@ true_false h = cc
 no_loop : (n : ℕ) (xs ys : List ℕ) → xs ≡ n ∷ ys → xs ≡ ys → ⊥
 no_loop n xs ys h e = omega (arith, ap length (sym e ∙ h))
 
-module _ (accesses : List live.Access) (name : ℕ → ℕ) (access : Opened) (opened : ℕ) (told : AreTold accesses name access opened) where
+module _ (accesses : List live.Access) (name : ℕ → ℕ) (access : Opened) (opened : ℕ) (told : RepresentAccesses accesses name access opened) where
   -- each name in a chain is that of a live access
-  pub named_in : (names : List ℕ) (o : Option AccId) (n : ℕ) → IsLiveIfGiven o accesses → chain_of access name o ≡ names → member n names ≡ true → (id : AccId) × (one : live.Access) × (live.access id accesses ≡ Some one) × (name id.slot ≡ n)
+  pub named_in : (names : List ℕ) (o : Option AccId) (n : ℕ) → IsLiveIfGiven o accesses → chain_of access name o ≡ names → member n names ≡ true
+      → (id : AccId) × (one : live.Access) × (live.access id accesses ≡ Some one) × (name id.slot ≡ n)
   named_in [] o n lives is m = absurd (cc)
   named_in (first ∷ names) None n lives is m = absurd (cc)
   named_in (first ∷ names) (Some id) n lives is m =
@@ -36,7 +38,7 @@ module _ (accesses : List live.Access) (name : ℕ → ℕ) (access : Opened) (o
       ]
 
   -- an access that leads to another one has an ancestor that is a child of it
-  child_of : (from to : AccId) → Leads accesses from to → IsLive from accesses → nat_eq from.slot to.slot ≡ false → HasChild to accesses
+  child_of : (from to : AccId) → HasAncestor accesses from to → IsLive from accesses → nat_eq from.slot to.slot ≡ false → HasChild to accesses
   child_of from to (itself _) lives differs = absurd (true_false (sym (same_test from.slot) ∙ differs))
   child_of from to (above _ parent _ is rest) lives differs =
       let one = found (live.access from accesses) lives in
@@ -47,7 +49,8 @@ module _ (accesses : List live.Access) (name : ℕ → ℕ) (access : Opened) (o
       ]
 
   -- what the access of each name says of the closing of another
-  lets_if : (this : ℕ) → ((id : AccId) (one : live.Access) → live.access id accesses ≡ Some one → nat_eq (name id.slot) this ≡ false → member this (chain_of access name (Some id)) ≡ true → ⊥) → (n : ℕ) (a : Option machine.Access) → access n ≡ a → lets_close a n this ≡ true
+  lets_if : (this : ℕ) → ((id : AccId) (one : live.Access) → live.access id accesses ≡ Some one → nat_eq (name id.slot) this ≡ false
+      → member this (chain_of access name (Some id)) ≡ true → ⊥) → (n : ℕ) (a : Option machine.Access) → access n ≡ a → lets_close a n this ≡ true
   lets_if this never n None h = refl
   lets_if this never n (Some a) h =
       let at = told.named n a h in
@@ -67,9 +70,11 @@ module _ (accesses : List live.Access) (name : ℕ → ℕ) (access : Opened) (o
       not_member false none = refl
 
   -- no live access has that name
-  pub none_closes : (this : ℕ) → ((id : AccId) (one : live.Access) → live.access id accesses ≡ Some one → name id.slot ≡ this → ⊥) → all_below opened (λ n. lets_close (access n) n this) ≡ true
+  pub none_closes : (this : ℕ) → ((id : AccId) (one : live.Access) → live.access id accesses ≡ Some one → name id.slot ≡ this → ⊥)
+      → all_below opened (λ n. lets_close (access n) n this) ≡ true
   none_closes this absent = all_below_if opened (λ n. lets_close (access n) n this) (λ n below. lets_if this
-      (λ id one h differs m. let at = named_in (chain_of access name (Some id)) (Some id) this (lives id one h) refl m in absent at.0 at.1 at.2 at.3) n (access n) refl)
+      (λ id one h differs m. let at = named_in (chain_of access name (Some id)) (Some id) this (lives id one h) refl m in
+      absent at.0 at.1 at.2 at.3) n (access n) refl)
     where
       lives : (id : AccId) (one : live.Access) → live.access id accesses ≡ Some one → IsLive id accesses
       lives id one h = ap is_some h
@@ -78,7 +83,8 @@ module _ (accesses : List live.Access) (name : ℕ → ℕ) (access : Opened) (o
     pub childless_closes : (HasChild id accesses → ⊥) → all_below opened (λ n. lets_close (access n) n (name id.slot)) ≡ true
     childless_closes none = all_below_if opened (λ n. lets_close (access n) n (name id.slot)) (λ n below. lets_if (name id.slot)
         (λ other a h differs m.
-        none (child_of other id (through_then accesses name access opened told (Some other) id one (ap is_some h) there m) (ap is_some h) (slots_differ other differs)))
+        none (child_of other id (through_then accesses name access opened told (Some other) id one (ap is_some h) there m) (ap is_some h)
+        (slots_differ other differs)))
         n (access n) refl)
       where
         slots_differ : (other : AccId) → nat_eq (name other.slot) (name id.slot) ≡ false → nat_eq other.slot id.slot ≡ false
@@ -94,15 +100,17 @@ module _ (accesses : List live.Access) (name : ℕ → ℕ) (access : Opened) (o
     child_keeps has =
         some_fails opened (λ n. lets_close (access n) n (name id.slot)) (name has.child.slot) (told.before has.child has.access_of has.is_live)
         (ap (λ a. lets_close a (name has.child.slot) (name id.slot)) (told.known has.child has.access_of has.is_live)
-        ∙ ap (λ t. cond t true (not (member (name id.slot) (told_access access name has.child has.access_of).chain))) other
+        ∙ ap (λ t. cond t true (not (member (name id.slot) (abstract_access access name has.child has.access_of).chain))) other
         ∙ ap not in_chain)
       where
         chain : chain_of access name (Some has.child) ≡ name has.child.slot ∷ chain_of access name (Some id)
-        chain = chain_is accesses name access opened told has.child has.access_of has.is_live ∙ ap (λ o. name has.child.slot ∷ chain_of access name o) has.is_child
+        chain = chain_is accesses name access opened told has.child has.access_of has.is_live
+            ∙ ap (λ o. name has.child.slot ∷ chain_of access name o) has.is_child
 
         other : nat_eq (name has.child.slot) (name id.slot) ≡ false
         other = elim (same_or_other (name has.child.slot) (name id.slot)) [
-          | inl same ↦ absurd (no_loop (name has.child.slot) (chain_of access name (Some has.child)) (chain_of access name (Some id)) chain (ap (λ i. chain_of access name (Some i)) (told.own_name has.child id has.access_of one has.is_live there same.1)))
+          | inl same ↦ absurd (no_loop (name has.child.slot) (chain_of access name (Some has.child)) (chain_of access name (Some id)) chain
+              (ap (λ i. chain_of access name (Some i)) (told.own_name has.child id has.access_of one has.is_live there same.1)))
           | inr differs ↦ differs
         ]
 

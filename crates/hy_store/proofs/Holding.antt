@@ -1,11 +1,12 @@
 -- What becomes of the blocks where cells are stored, and where one is taken or freed.
-use Rattle.std.proofs.Common.{◌≡◌, ◌<◌, ◌≤◌, ◌+◌, ◌-◌, ◌^◌, ℕ, zero, suc, Bool, true, false, nat_eq, ℤ, ◌⊎◌, inl, inr, List, [], ◌∷◌, length, replicate, Some, None, sym, ap, subst, ◌∙◌, arith}
+use Rattle.std.proofs.Common.{◌≡◌, ◌<◌, ◌≤◌, ◌+◌, ◌-◌, ◌^◌, ℕ, zero, suc, Bool, true, false, nat_eq, ℤ, ◌⊎◌, inl, inr, List, [], ◌∷◌, length, replicate}
+use Rattle.std.proofs.Common.{Some, None, sym, ap, subst, ◌∙◌, arith}
 use Rattle.std.proofs.lemmas.Bool.Decides.{nat_tests}
 use Rattle.hy_object.specs.States as machine
 use Rattle.hy_object.specs.States.{nth, within, with_cells, with_at, Range}
 use Rattle.hy_store.specs.Cells.{Cell, Unset, Word, Name, with_window, window}
 use Rattle.hy_store.specs.Memory.{Live, with_block}
-use Rattle.hy_store.specs.Held.{told_cell, IsGood, Tells, IsBlock, AreHeld}
+use Rattle.hy_store.specs.Held.{abstract_cell, IsGood, Tells, IsBlock, AreHeld}
 use Rattle.hy_store.proofs.Rows.{nth_stored, nth_window, nth_replicate, length_stored}
 
 pub same_or_other : (a b : ℕ) → ((nat_eq a b ≡ true) × (a ≡ b)) ⊎ (nat_eq a b ≡ false)
@@ -23,20 +24,23 @@ still_good is_array taken v (Name b) good = (omega (arith, good.0), rw (apart b 
     apart m n h = grind (arith, nat_tests)
 
 module _ (is_array : ℕ → Bool) (taken : ℕ) where
-  pub tells_window : (cells : List Cell) (f : machine.Cells) (from n : ℕ) → Tells is_array taken cells f → Tells is_array taken (window cells from n) (λ i. f (from + i))
+  pub tells_window : (cells : List Cell) (f : machine.Cells) (from n : ℕ) → Tells is_array taken cells f
+      → Tells is_array taken (window cells from n) (λ i. f (from + i))
   tells_window cells f from n tells i c h = let p = nth_window cells from n i c h in tells (from + i) c p.1
 
   pub tells_unset : (n : ℕ) → Tells is_array taken (replicate n Unset) machine.unset
-  tells_unset n i c h = let p = nth_replicate n Unset i c h in (ap told_cell p.1, subst (IsGood is_array taken) p.1 tt)
+  tells_unset n i c h = let p = nth_replicate n Unset i c h in (ap abstract_cell p.1, subst (IsGood is_array taken) p.1 tt)
 
   pub tells_word : (n : ℤ) → Tells is_array taken (Word n ∷ []) (λ i. machine.Word n)
-  tells_word n zero c h = let e : Word n ≡ c = cc in (ap told_cell e, subst (IsGood is_array taken) e tt)
+  tells_word n zero c h = let e : Word n ≡ c = cc in (ap abstract_cell e, subst (IsGood is_array taken) e tt)
   tells_word n (suc i) c h = absurd (cc)
 
   module _ (blocks new : Live) (cells : ℕ → machine.Cells) (words freed : ℕ → ℕ) (held : AreHeld blocks is_array taken cells words freed) where
     -- cells are stored in a block
-    pub stored : (b from : ℕ) (found row : List Cell) (f : machine.Cells) → blocks b ≡ Some found → from + length row ≤ length found → Tells is_array taken row f →
-        ((other : ℕ) → new other ≡ with_block blocks b (Some (with_window found from row)) other) → AreHeld new is_array taken (with_cells cells (record { block = b; from = from; words = length row }) f) words freed
+    pub stored : (b from : ℕ) (found row : List Cell) (f : machine.Cells) → blocks b ≡ Some found → from + length row ≤ length found
+        → Tells is_array taken row f →
+        ((other : ℕ) → new other ≡ with_block blocks b (Some (with_window found from row)) other)
+        → AreHeld new is_array taken (with_cells cells (record { block = b; from = from; words = length row }) f) words freed
     stored b from found row f is fits tells becomes =
         record {
           known = λ other now h. elim (same_or_other b other) [
@@ -53,7 +57,9 @@ module _ (is_array : ℕ → Bool) (taken : ℕ) where
         some_none : {x : List Cell} → Some x ≡ None → ⊥
         some_none h = cc
 
-        here : (other : ℕ) (now : List Cell) → nat_eq b other ≡ true → b ≡ other → Some (with_window found from row) ≡ Some now → IsBlock is_array taken (words other) (freed other) other (with_cells cells (record { block = b; from = from; words = length row }) f other) now
+        here : (other : ℕ) (now : List Cell) → nat_eq b other ≡ true → b ≡ other → Some (with_window found from row) ≡ Some now
+            → IsBlock is_array taken (words other) (freed other) other (with_cells cells (record { block = b; from = from; words = length row }) f other)
+            now
         here other now test same is_now =
             let e : with_window found from row ≡ now = cc in
             let known = subst (λ k. IsBlock is_array taken (words k) (freed k) k (cells k) found) same (held.known b found is) in
@@ -70,14 +76,24 @@ module _ (is_array : ℕ → Bool) (taken : ℕ) where
               ];
             }
 
-        there : (other : ℕ) (now : List Cell) → nat_eq b other ≡ false → blocks other ≡ Some now → IsBlock is_array taken (words other) (freed other) other (with_cells cells (record { block = b; from = from; words = length row }) f other) now
+        there : (other : ℕ) (now : List Cell) → nat_eq b other ≡ false → blocks other ≡ Some now
+            → IsBlock is_array taken (words other) (freed other) other (with_cells cells (record { block = b; from = from; words = length row }) f other)
+            now
         there other now test h =
             let known = held.known other now h in
             let test' : nat_eq other b ≡ false = flip other b ∙ test in
-            record { live = known.live; size = known.size; small = known.small; named = known.named; tells = λ i c h. let t = known.tells i c h in (rw test' t.0, t.1) }
+            record {
+              live = known.live;
+              size = known.size;
+              small = known.small;
+              named = known.named;
+              tells = λ i c h. let t = known.tells i c h in
+                  (rw test' t.0, t.1);
+            }
 
     -- a block is freed
-    pub freed_one : (b : ℕ) → b < taken → ((other : ℕ) → new other ≡ with_block blocks b None other) → AreHeld new is_array taken cells words (with_at freed b (suc (freed b)))
+    pub freed_one : (b : ℕ) → b < taken → ((other : ℕ) → new other ≡ with_block blocks b None other)
+        → AreHeld new is_array taken cells words (with_at freed b (suc (freed b)))
     freed_one b below becomes = record {
       known = λ other now h. elim (same_or_other b other) [
         | inl same ↦ absurd (none_some (sym (rw same.0 at (becomes other)) ∙ h))
@@ -101,7 +117,8 @@ module _ (is_array : ℕ → Bool) (taken : ℕ) where
         no_zero n = grind (arith, nat_tests)
 
     -- a block is taken, with these cells
-    pub taken_one : (v : Bool) (row : List Cell) (f : machine.Cells) → length row < 2 ^ 32 → Tells (with_at is_array taken v) (suc taken) row f → ((other : ℕ) → new other ≡ with_block blocks taken (Some row) other) →
+    pub taken_one : (v : Bool) (row : List Cell) (f : machine.Cells) → length row < 2 ^ 32 → Tells (with_at is_array taken v) (suc taken) row f
+        → ((other : ℕ) → new other ≡ with_block blocks taken (Some row) other) →
         AreHeld new (with_at is_array taken v) (suc taken) (with_at cells taken f) (with_at words taken (length row)) freed
     taken_one v row f small tells becomes = record {
       known = λ other now h. elim (same_or_other taken other) [
@@ -117,7 +134,14 @@ module _ (is_array : ℕ → Bool) (taken : ℕ) where
         | inr differs ↦
             let known = held.known other now (sym (rw differs at (becomes other)) ∙ h) in
             let test : nat_eq other taken ≡ false = flip other taken ∙ differs in
-            record { live = known.live; size = rw test known.size; small = known.small; named = omega (arith, known.named); tells = λ i c g. let t = known.tells i c g in (rw test t.0, still_good is_array taken v c t.1) }
+            record {
+              live = known.live;
+              size = rw test known.size;
+              small = known.small;
+              named = omega (arith, known.named);
+              tells = λ i c g. let t =
+                  known.tells i c g in (rw test t.0, still_good is_array taken v c t.1);
+            }
       ];
       gone = λ other below h. elim (same_or_other taken other) [
         | inl same ↦ absurd (some_none (sym (rw same.0 at (becomes other)) ∙ h))

@@ -1,5 +1,6 @@
 -- Checks that may trap, and the ranges of elements.
-use Rattle.std.proofs.Common.{◌≡◌, ◌≤◌, ◌+◌, ◌-◌, ◌*◌, ◌<◌, ◌&&◌, not, ◌⊎◌, inl, inr, ℕ, zero, suc, ℤ, pos, negsuc, Bool, true, false, cond, nat_le, nat_lt, List, Option, Some, None, IsErrAnd, Result, Ok, Err, refl, sym, ap, subst, ◌∙◌, arith}
+use Rattle.std.proofs.Common.{◌≡◌, ◌≤◌, ◌+◌, ◌-◌, ◌*◌, ◌<◌, ◌&&◌, not, ◌⊎◌, inl, inr, ℕ, zero, suc, ℤ, pos, negsuc, Bool, true, false, cond, nat_le, nat_lt}
+use Rattle.std.proofs.Common.{List, Option, Some, None, IsErrAnd, Result, Ok, Err, refl, sym, ap, subst, ◌∙◌, arith}
 use Rattle.std.specs.Bool.{Decides}
 use Rattle.std.proofs.lemmas.Bool.Decides.{nat_tests}
 use Rattle.std.proofs.lemmas.Nat.{mul-le}
@@ -21,30 +22,34 @@ use Rattle.hy_store.specs.declared.halt.Halt.{Halt}
 use Rattle.hy_store.specs.declared.halt.Halt.TheVariants as halt
 use Rattle.hy_store.specs.declared.store.Store.{Store}
 use Rattle.hy_store.specs.Cells.{Cell}
-use Rattle.hy_store.specs.Elements.{Follows, Halts, behind, clear, element_of, indexed, last, last_number, natural, range_in}
+use Rattle.hy_store.specs.Elements.{Follows, Halts, after_last, clear, element_of, indexed, last, last_number, natural, range_in}
 use Rattle.hy_store.specs.Memory.{live, HasCells}
-use Rattle.hy_store.specs.Opened.{told_range}
-use Rattle.hy_store.specs.Replies.{Replies}
-use Rattle.hy_store.specs.Sees.{Ghosts, IsSeen, Reaches, Sees}
+use Rattle.hy_store.specs.Opened.{abstract_range}
+use Rattle.hy_store.specs.Executes.{MemoryUse, StoreExecutes}
+use Rattle.hy_store.specs.Represents.{Ghosts, RepresentsSome, Reaches, Represents}
 use Rattle.hy_store.proofs.Counted.{meets_is}
 
 -- CHECKS THAT MAY TRAP
 
-replied : (h : Halt) (fun : Fun) (old new : Store) (step : State → State) → IsSeen old fun → ((g : Ghosts) (s : State) → Sees g old fun s → Halts s h (step s)) → Replies fun old new (Err h) step
-replied (halt.Stuck why) fun old new step seen f = f
-replied (halt.Ended e) fun old new step seen f = (λ g s sees. (f g s sees).0, (f seen.0 seen.1 seen.2).1)
-replied (halt.Cut c) fun old new step seen f = absurd (f seen.0 seen.1 seen.2)
+replied : (memory : MemoryUse) (h : Halt) (fun : Fun) (old new : Store) (step : State → State) → RepresentsSome old fun
+    → ((g : Ghosts) (s : State) → Represents g old fun s → Halts s h (step s)) → StoreExecutes memory fun old new (Err h) step
+replied memory (halt.Stuck why) fun old new step represented f = f
+replied memory (halt.Ended e) fun old new step represented f = (λ g s represents. (f g s represents).0, (f represented.0 represented.1 represented.2).1)
+replied memory (halt.Cut c) fun old new step represented f = absurd (f represented.0 represented.1 represented.2)
 
--- a halt that is told as it is
-pub told_halts : (r : Result (Unit {0}) Halt) (h : Halt) (fun : Fun) (old new : Store) (step : State → State) → IsSeen old fun → IsErrAnd r (λ x. x ≡ h) → ((g : Ghosts) (s : State) → Sees g old fun s → Halts s h (step s)) → Replies fun old new r step
-told_halts (Ok done) h fun old new step seen e f = absurd e
-told_halts (Err x) h fun old new step seen e f = subst (λ y. Replies fun old new (Err y) step) (sym e) (replied h fun old new step seen f)
+-- a halt that is handed on as it is
+pub told_halts : (memory : MemoryUse) (r : Result (Unit {0}) Halt) (h : Halt) (fun : Fun) (old new : Store) (step : State → State) → RepresentsSome old fun
+    → IsErrAnd r (λ x. x ≡ h) → ((g : Ghosts) (s : State) → Represents g old fun s → Halts s h (step s)) → StoreExecutes memory fun old new r step
+told_halts memory (Ok done) h fun old new step represented e f = absurd e
+told_halts memory (Err x) h fun old new step represented e f =
+    subst (λ y. StoreExecutes memory fun old new (Err y) step) (sym e) (replied memory h fun old new step represented f)
 
 pub halted : (s : State) (h : Halt) (t u : State) → t ≡ u → Halts s h u → Halts s h t
 halted s h t u e is = subst (Halts s h) (sym e) is
 
 -- a halt that is handed on as it is
-pub handed_halt : {A : Type 0} (s : State) (r : Result A Halt) (h : Halt) (go : A → State) (t : State) → IsErrAnd r (λ x. x ≡ h) → Halts s h t → Follows s r go t
+pub handed_halt : {A : Type 0} (s : State) (r : Result A Halt) (h : Halt) (go : A → State) (t : State) → IsErrAnd r (λ x. x ≡ h) → Halts s h t
+    → Follows s r go t
 handed_halt s (Ok a) h go t e is = absurd e
 handed_halt s (Err x) h go t e is = subst (λ y. Halts s y t) (sym e) is
 
@@ -58,15 +63,16 @@ not_chosen : {A : Type 0} (b : Bool) (x : A) → cond b (Some x) None ≡ None �
 not_chosen true x h = absurd (cc)
 not_chosen false x h = refl
 
-clear_some : (o : Option Range) (a b : machine.Range) (r : Range) → clear o a b ≡ Some r → (o ≡ Some r) × (is_apart (told_range r) a b ≡ true)
+clear_some : (o : Option Range) (a b : machine.Range) (r : Range) → clear o a b ≡ Some r → (o ≡ Some r) × (is_apart (abstract_range r) a b ≡ true)
 clear_some None a b r h = absurd (cc)
 clear_some (Some q) a b r h =
-    let p = chosen (is_apart (told_range q) a b) q r h in
-    (ap (λ (x : Range). Some x) p.1, ap (λ (x : Range). is_apart (told_range x) a b) (sym p.1) ∙ p.0)
+    let p = chosen (is_apart (abstract_range q) a b) q r h in
+    (ap (λ (x : Range). Some x) p.1, ap (λ (x : Range). is_apart (abstract_range x) a b) (sym p.1) ∙ p.0)
 
-clear_none : (o : Option Range) (a b : machine.Range) → clear o a b ≡ None → (o ≡ None) ⊎ ((q : Range) × (o ≡ Some q) × (is_apart (told_range q) a b ≡ false))
+clear_none : (o : Option Range) (a b : machine.Range) → clear o a b ≡ None → (o ≡ None)
+    ⊎ ((q : Range) × (o ≡ Some q) × (is_apart (abstract_range q) a b ≡ false))
 clear_none None a b h = inl refl
-clear_none (Some q) a b h = inr (q, refl, not_chosen (is_apart (told_range q) a b) q h)
+clear_none (Some q) a b h = inr (q, refl, not_chosen (is_apart (abstract_range q) a b) q h)
 
 le_then : (a b : ℕ) → nat_le a b ≡ true → a ≤ b
 le_then a b h = grind (arith, nat_tests)
@@ -87,12 +93,15 @@ module _ (block k width words : ℕ) (r : Range) (is : range_in block k width wo
   range_is : record { block = block; from = k * width; len = width } ≡ r
   range_is = (chosen {A = Range} (nat_le (k * width + width) words) (record { block = block; from = k * width; len = width }) r is).1
 
-  pub range_told : element block k width ≡ told_range r
-  range_told = ap told_range range_is
+  pub range_told : element block k width ≡ abstract_range r
+  range_told = ap abstract_range range_is
 
-  -- the cells of the element are there
-  pub range_reached : (store : Store) (through : Option AccId) → IsLiveIfGiven through store.opened.accesses → HasCells (live store.blocks block) 0 words → Reaches store width (record { range = r; through = through })
-  range_reached store through lives size = subst (λ (q : Range). Reaches store width (record { range = q; through = through })) range_is (record { through = lives; cells = there (live store.blocks block) size; len = refl })
+  -- the cells of the element exist
+  pub range_reached : (store : Store) (through : Option AccId) → IsLiveIfGiven through store.opened.accesses → HasCells (live store.blocks block) 0 words
+      → Reaches store width (record { range = r; through = through })
+  range_reached store through lives size =
+      subst (λ (q : Range). Reaches store width (record { range = q; through = through })) range_is
+      (record { through = lives; cells = there (live store.blocks block) size; len = refl })
     where
       there : (found : Option (List Cell)) → HasCells found 0 words → HasCells found (k * width) width
       there None h = absurd h
@@ -112,12 +121,14 @@ module _ (object : Object) (s : State) (span : ℕ) (x : Reach) (block : ℕ) (i
 
   module _ (k words : ℕ) (is : index_in index count ≡ Some k) (size : s.words block ≡ words) where
     numbered : indexed object s span x block index count width go ≡ check s kind.Range (nat_le (k * width + width) words) (go (element_of x block k width))
-    numbered = ap (λ o. with_some_index object s span o rest) is ∙ ap (λ n. check s kind.Range (nat_le (k * width + width) n) (go (element_of x block k width))) size
+    numbered = ap (λ o. with_some_index object s span o rest) is
+        ∙ ap (λ n. check s kind.Range (nat_le (k * width + width) n) (go (element_of x block k width))) size
 
     pub indexed_outside : range_in block k width words ≡ None → indexed object s span x block index count width go ≡ stuck s kind.Range
     indexed_outside h = numbered ∙ ap (λ t. check s kind.Range t (go (element_of x block k width))) (range_none block k width words h)
 
-    pub indexed_is : (r : Range) → range_in block k width words ≡ Some r → indexed object s span x block index count width go ≡ go (record { range = told_range r; way = x.way; chain = x.chain })
+    pub indexed_is : (r : Range) → range_in block k width words ≡ Some r
+        → indexed object s span x block index count width go ≡ go (record { range = abstract_range r; way = x.way; chain = x.chain })
     indexed_is r h =
         numbered ∙ ap (λ t. check s kind.Range t (go (element_of x block k width))) (range_fits block k width words r h)
         ∙ ap (λ (q : machine.Range). go (record { range = q; way = x.way; chain = x.chain })) (range_told block k width words r h)
@@ -165,35 +176,40 @@ module _ (s : State) (x y : Reach) (block k width words : ℕ) (size : s.words b
           le_so (k * m + m) words (omega (arith, a, b))
 
   module _ (go : machine.Range → ℤ → State) where
-    behind_tested : (b c : Bool) → nat_le (suc k * room width) words ≡ b → apart ≡ c → behind s x block (pos k) y width go ≡ check s kind.Range (b && c) (go (element block k width) (pos (suc k)))
+    behind_tested : (b c : Bool) → nat_le (suc k * room width) words ≡ b → apart ≡ c
+        → after_last s x block (pos k) y width go ≡ check s kind.Range (b && c) (go (element block k width) (pos (suc k)))
     behind_tested b c h e =
         let r : nat_le (suc k * room width) (s.words block) ≡ b = ap (λ n. nat_le (suc k * room width) n) size ∙ h in
         λ i. check s kind.Range (r i && e i) (go (element block k width) (pos (suc k)))
 
-    pub no_room : nat_le (suc k * room width) words ≡ false → behind s x block (pos k) y width go ≡ stuck s kind.Range
+    pub no_room : nat_le (suc k * room width) words ≡ false → after_last s x block (pos k) y width go ≡ stuck s kind.Range
     no_room h = behind_tested false apart h refl
 
     module _ (roomy : nat_le (suc k * room width) words ≡ true) where
-      pub not_behind : found ≡ None → behind s x block (pos k) y width go ≡ stuck s kind.Range
+      pub not_behind : found ≡ None → after_last s x block (pos k) y width go ≡ stuck s kind.Range
       not_behind h = behind_tested true false roomy (second (nat_le (k * width + width) words) apart (below_room roomy) (not_found h))
         where
           second : (a b : Bool) → a ≡ true → (a && b) ≡ false → b ≡ false
           second a b h e = sym (ap (λ t. t && b) h) ∙ e
 
-      pub behind_is : (r : Range) → found ≡ Some r → behind s x block (pos k) y width go ≡ go (told_range r) (pos (suc k))
-      behind_is r h = behind_tested true true roomy (found_apart r h) ∙ ap (λ (q : machine.Range). go q (pos (suc k))) (range_told block k width words r (found_range r h))
+      pub behind_is : (r : Range) → found ≡ Some r → after_last s x block (pos k) y width go ≡ go (abstract_range r) (pos (suc k))
+      behind_is r h = behind_tested true true roomy (found_apart r h)
+          ∙ ap (λ (q : machine.Range). go q (pos (suc k))) (range_told block k width words r (found_range r h))
 
     module _ (object : Object) (span : ℕ) where
-      last_tested : (b c : Bool) → nat_le (k * width + width) words ≡ b → apart ≡ c → last object s x block (pos (suc k)) y width span go ≡ check s kind.Range (b && c) (go (element block k width) (pos k))
+      last_tested : (b c : Bool) → nat_le (k * width + width) words ≡ b → apart ≡ c
+          → last object s x block (pos (suc k)) y width span go ≡ check s kind.Range (b && c) (go (element block k width) (pos k))
       last_tested b c h e =
           let r : nat_le (k * width + width) (s.words block) ≡ b = ap (λ n. nat_le (k * width + width) n) size ∙ h in
           λ i. check s kind.Range (r i && e i) (go (element block k width) (pos k))
 
       pub not_last : found ≡ None → last object s x block (pos (suc k)) y width span go ≡ stuck s kind.Range
-      not_last h = last_tested (nat_le (k * width + width) words) apart refl refl ∙ ap (λ t. check s kind.Range t (go (element block k width) (pos k))) (not_found h)
+      not_last h = last_tested (nat_le (k * width + width) words) apart refl refl
+          ∙ ap (λ t. check s kind.Range t (go (element block k width) (pos k))) (not_found h)
 
-      pub last_is : (r : Range) → found ≡ Some r → last object s x block (pos (suc k)) y width span go ≡ go (told_range r) (pos k)
-      last_is r h = last_tested true true (range_fits block k width words r (found_range r h)) (found_apart r h) ∙ ap (λ (q : machine.Range). go q (pos k)) (range_told block k width words r (found_range r h))
+      pub last_is : (r : Range) → found ≡ Some r → last object s x block (pos (suc k)) y width span go ≡ go (abstract_range r) (pos k)
+      last_is r h = last_tested true true (range_fits block k width words r (found_range r h)) (found_apart r h)
+          ∙ ap (λ (q : machine.Range). go q (pos k)) (range_told block k width words r (found_range r h))
 
 -- COUNTS
 
@@ -201,7 +217,8 @@ pub natural_is : (z : ℤ) (n : ℕ) → natural z ≡ Some n → z ≡ pos n
 natural_is (pos m) n h = let e : m ≡ n = cc in ap (λ k. pos k) e
 natural_is (negsuc m) n h = absurd (cc)
 
-pub no_count : (s : State) (x : Reach) (block : ℕ) (z : ℤ) (y : Reach) (width : ℕ) (go : machine.Range → ℤ → State) → natural z ≡ None → behind s x block z y width go ≡ stuck s kind.Range
+pub no_count : (s : State) (x : Reach) (block : ℕ) (z : ℤ) (y : Reach) (width : ℕ) (go : machine.Range → ℤ → State) → natural z ≡ None
+    → after_last s x block z y width go ≡ stuck s kind.Range
 no_count s x block (pos n) y width go h = absurd (cc)
 no_count s x block (negsuc n) y width go h = refl
 
@@ -213,7 +230,8 @@ last_number_is (pos n) k h =
     ap (λ m. pos m) e
 last_number_is (negsuc n) k h = absurd (cc)
 
-pub no_last : (object : Object) (s : State) (x : Reach) (block : ℕ) (z : ℤ) (y : Reach) (width span : ℕ) (go : machine.Range → ℤ → State) → last_number z ≡ None → last object s x block z y width span go ≡ traps object s trap.Empty span
+pub no_last : (object : Object) (s : State) (x : Reach) (block : ℕ) (z : ℤ) (y : Reach) (width span : ℕ) (go : machine.Range → ℤ → State)
+    → last_number z ≡ None → last object s x block z y width span go ≡ traps object s trap.Empty span
 no_last object s x block (negsuc n) y width span go h = refl
 no_last object s x block (pos zero) y width span go h = refl
 no_last object s x block (pos (suc k)) y width span go h =
@@ -223,7 +241,8 @@ no_last object s x block (pos (suc k)) y width span go h =
     differ : true ≡ false → ⊥
     differ h = cc
 
-pub room_tested : (n each width words : ℕ) (result : Bool) → each ≡ room width → result ≡ nat_le ((n + 1) * each) words → nat_le (suc n * room width) words ≡ result
+pub room_tested : (n each width words : ℕ) (result : Bool) → each ≡ room width → result ≡ nat_le ((n + 1) * each) words
+    → nat_le (suc n * room width) words ≡ result
 room_tested n each width words result e is = sym (is ∙ ap (λ m. nat_le (m * each) words) (one_more n) ∙ ap (λ m. nat_le (suc n * m) words) e)
   where
     one_more : (m : ℕ) → m + 1 ≡ suc m
@@ -239,11 +258,13 @@ few n (suc m) words h =
 
 -- TRAPS
 
-pub trapped : (object : Object) (s : State) (why : TrapKind) (span : ℕ) (h : Halt) (t : State) → h ≡ halt.Ended (end.Trap why (span_of (nth object.spans span))) → t ≡ traps object s why span → Halts s h t
+pub trapped : (object : Object) (s : State) (why : TrapKind) (span : ℕ) (h : Halt) (t : State)
+    → h ≡ halt.Ended (end.Trap why (span_of (nth object.spans span))) → t ≡ traps object s why span → Halts s h t
 trapped object s why span h t e is = subst (λ (x : Halt). Halts s x t) (sym e) (is, λ h. cc)
 
 -- a range that meets neither of two others, by the program's tests
-pub apart_is : (r a b : Range) (x y : Bool) → Decides x (Meets r a) → Decides y (Meets r b) → is_apart (told_range r) (told_range a) (told_range b) ≡ (not x && not y)
+pub apart_is : (r a b : Range) (x y : Bool) → Decides x (Meets r a) → Decides y (Meets r b)
+    → is_apart (abstract_range r) (abstract_range a) (abstract_range b) ≡ (not x && not y)
 apart_is r a b x y one other =
     let first = meets_is r a x one in
     let second = meets_is r b y other in

@@ -1,5 +1,6 @@
 -- What becomes of the names of live accesses where one is opened and where one is closed.
-use Rattle.std.proofs.Common.{◌≡◌, ◌<◌, ℕ, suc, Bool, true, false, nat_eq, cond, ◌⊎◌, inl, inr, List, [], ◌∷◌, ◌++◌, Option, Some, None, is_some, refl, sym, ap, subst, ◌∙◌, arith}
+use Rattle.std.proofs.Common.{◌≡◌, ◌<◌, ℕ, suc, Bool, true, false, nat_eq, cond, ◌⊎◌, inl, inr, List, [], ◌∷◌, ◌++◌, Option, Some, None, is_some, refl, sym}
+use Rattle.std.proofs.Common.{ap, subst, ◌∙◌, arith}
 use Rattle.std.specs.Option.{option_map}
 use Rattle.std.proofs.lemmas.Bool.Decides.{nat_tests}
 use Rattle.hy_access.specs.declared.access.AccId.{AccId}
@@ -10,13 +11,14 @@ use Rattle.hy_access.specs.Accesses.{IsLive, IsLiveIfGiven, HasChild, slot_of, w
 use Rattle.hy_links.specs.Keyed.{numbered, without}
 use Rattle.hy_object.specs.States as machine
 use Rattle.hy_object.specs.States.{with_at}
-use Rattle.hy_store.specs.Opened.{Opened, AreTold, told_access, told_range, told_way, chain_of, chain_in}
+use Rattle.hy_store.specs.Opened.{Opened, RepresentAccesses, abstract_access, abstract_range, abstract_way, chain_of, chain_in}
 use Rattle.hy_store.proofs.Chains.{found}
 use Rattle.hy_store.proofs.Holding.{same_or_other}
 
 module _ {X : Type 0} (number : X → ℕ) where
-  -- who is found where one is put behind all others, whose number no other has
-  pub numbered_behind : (xs : List X) (x : X) (n : ℕ) → numbered number (number x) xs ≡ None → numbered number n (xs ++ x ∷ []) ≡ cond (nat_eq n (number x)) (Some x) (numbered number n xs)
+  -- who is found where one is put after all others, whose number no other has
+  pub numbered_behind : (xs : List X) (x : X) (n : ℕ) → numbered number (number x) xs ≡ None
+      → numbered number n (xs ++ x ∷ []) ≡ cond (nat_eq n (number x)) (Some x) (numbered number n xs)
   numbered_behind [] x n none = flipped (nat_eq (number x) n) (nat_eq n (number x)) (flip (number x) n)
     where
       flip : (a b : ℕ) → nat_eq a b ≡ nat_eq b a
@@ -31,8 +33,11 @@ module _ {X : Type 0} (number : X → ℕ) where
             let rest : numbered number (number x) xs ≡ None = sym (ap (λ t. cond t (Some y) (numbered number (number x) xs)) differs) ∙ none in
             let so = numbered_behind xs x n rest in
             elim (same_or_other (number y) n) [
-              | inl here ↦ ap (λ t. cond t (Some y) (numbered number n (xs ++ x ∷ []))) here.0 ∙ sym (ap (λ t. cond t (Some x) (cond (nat_eq (number y) n) (Some y) (numbered number n xs))) (apart (number y) (number x) n differs here.1) ∙ ap (λ t. cond t (Some y) (numbered number n xs)) here.0)
-              | inr past ↦ ap (λ t. cond t (Some y) (numbered number n (xs ++ x ∷ []))) past ∙ so ∙ ap (λ o. cond (nat_eq n (number x)) (Some x) o) (sym (ap (λ t. cond t (Some y) (numbered number n xs)) past))
+              | inl here ↦ ap (λ t. cond t (Some y) (numbered number n (xs ++ x ∷ []))) here.0
+                  ∙ sym (ap (λ t. cond t (Some x) (cond (nat_eq (number y) n) (Some y) (numbered number n xs)))
+                  (apart (number y) (number x) n differs here.1) ∙ ap (λ t. cond t (Some y) (numbered number n xs)) here.0)
+              | inr past ↦ ap (λ t. cond t (Some y) (numbered number n (xs ++ x ∷ []))) past ∙ so
+                  ∙ ap (λ o. cond (nat_eq n (number x)) (Some x) o) (sym (ap (λ t. cond t (Some y) (numbered number n xs)) past))
             ]
       ]
     where
@@ -57,14 +62,23 @@ module _ {X : Type 0} (number : X → ℕ) where
           | inr past ↦ ap (λ o. cond (nat_eq n m) None o) (sym (ap (λ t. cond t (Some y) (numbered number n xs)) past))
         ]
         | inr stays ↦ ap (numbered number n) (ap (λ t. cond t (without number m xs) (y ∷ without number m xs)) stays) ∙ elim (same_or_other (number y) n) [
-          | inl here ↦ let e : nat_eq n m ≡ false = ap (λ k. nat_eq k m) (sym here.1) ∙ stays in ap (λ t. cond t (Some y) (numbered number n (without number m xs))) here.0 ∙ sym (ap (λ t. cond t None (cond (nat_eq (number y) n) (Some y) (numbered number n xs))) e ∙ ap (λ t. cond t (Some y) (numbered number n xs)) here.0)
-          | inr past ↦ ap (λ t. cond t (Some y) (numbered number n (without number m xs))) past ∙ so ∙ ap (λ o. cond (nat_eq n m) None o) (sym (ap (λ t. cond t (Some y) (numbered number n xs)) past))
+          | inl here ↦ let e : nat_eq n m ≡ false = ap (λ k. nat_eq k m) (sym here.1) ∙ stays in
+              ap (λ t. cond t (Some y) (numbered number n (without number m xs))) here.0
+              ∙ sym (ap (λ t. cond t None (cond (nat_eq (number y) n) (Some y) (numbered number n xs))) e
+              ∙ ap (λ t. cond t (Some y) (numbered number n xs)) here.0)
+          | inr past ↦ ap (λ t. cond t (Some y) (numbered number n (without number m xs))) past ∙ so
+              ∙ ap (λ o. cond (nat_eq n m) None o) (sym (ap (λ t. cond t (Some y) (numbered number n xs)) past))
         ]
       ]
 
 -- an access that is opened under the next name
 abbrev pub new_access : Opened → (name : ℕ → ℕ) → (opened : ℕ) → (own : Range) → (header : Option Range) → Way → Option AccId → machine.Access
-new_access access name opened own header way parent = record { range = told_range own; header = option_map told_range header; way = told_way way; chain = opened ∷ chain_of access name parent }
+new_access access name opened own header way parent = record {
+  range = abstract_range own;
+  header = option_map abstract_range header;
+  way = abstract_way way;
+  chain = opened ∷ chain_of access name parent;
+}
 
 pub other_slots : (id other : AccId) → nat_eq id.slot other.slot ≡ true → id ≡ other
 other_slots id other h = let e : id.slot ≡ other.slot = grind (arith, nat_tests) in ap (λ n. record { slot = n }) e
@@ -75,8 +89,9 @@ less_apart a b h = grind (arith, nat_tests)
 pub same_test : (a : ℕ) → nat_eq a a ≡ true
 same_test a = grind (arith, nat_tests)
 
-module _ (accesses : List live.Access) (name : ℕ → ℕ) (access : Opened) (opened : ℕ) (told : AreTold accesses name access opened) where
-  module _ (id : AccId) (own : Range) (header : Option Range) (way : Way) (parent : Option AccId) (new_id : IsLive id accesses → ⊥) (parent_lives : IsLiveIfGiven parent accesses) where
+module _ (accesses : List live.Access) (name : ℕ → ℕ) (access : Opened) (opened : ℕ) (told : RepresentAccesses accesses name access opened) where
+  module _ (id : AccId) (own : Range) (header : Option Range) (way : Way) (parent : Option AccId) (new_id : IsLive id accesses
+      → ⊥) (parent_lives : IsLiveIfGiven parent accesses) where
     one : live.Access
     one = record { id = id; own = own; header = header; way = way; parent = parent }
 
@@ -127,7 +142,8 @@ module _ (accesses : List live.Access) (name : ℕ → ℕ) (access : Opened) (o
     unfolding after
     access_here = rw (same_test opened) refl
 
-    same_told : (i : AccId) (a : live.Access) → names i.slot ≡ name i.slot → chain_of after names a.parent ≡ chain_of access name a.parent → told_access access name i a ≡ told_access after names i a
+    same_told : (i : AccId) (a : live.Access) → names i.slot ≡ name i.slot → chain_of after names a.parent ≡ chain_of access name a.parent
+        → abstract_access access name i a ≡ abstract_access after names i a
     same_told i a n c = rw (n, c) refl
 
     split : (i : AccId) (a : live.Access) → live.access i more ≡ Some a → ((i ≡ id) × (one ≡ a)) ⊎ (live.access i accesses ≡ Some a)
@@ -155,7 +171,7 @@ module _ (accesses : List live.Access) (name : ℕ → ℕ) (access : Opened) (o
     here : live.access id more ≡ Some one
     here = find id ∙ rw (same_test id.slot) refl
 
-    new_told : after (names id.slot) ≡ Some (told_access after names id one)
+    new_told : after (names id.slot) ≡ Some (abstract_access after names id one)
     unfolding one
     new_told = ap after name_here ∙ access_here ∙ rw (name_here, kept_chain parent parent_lives) refl
 
@@ -167,12 +183,13 @@ module _ (accesses : List live.Access) (name : ℕ → ℕ) (access : Opened) (o
     unfolding after
     after_old n h = rw h refl
 
-    lent_facts : AreTold more names after (suc opened)
+    lent_facts : RepresentAccesses more names after (suc opened)
     lent_facts = record {
       known = λ i a h. elim (split i a h) [
-        | inl new ↦ let P : AccId → live.Access → Type 0 = λ j b. after (names j.slot) ≡ Some (told_access after names j b) in
+        | inl new ↦ let P : AccId → live.Access → Type 0 = λ j b. after (names j.slot) ≡ Some (abstract_access after names j b) in
             subst (λ j. P j a) (sym new.0) (subst (λ b. P id b) new.1 new_told)
-        | inr old ↦ kept_access i a old ∙ told.known i a old ∙ ap (λ t. Some t) (same_told i a (kept_name i a old) (kept_chain a.parent (told.parents i a old)))
+        | inr old ↦ kept_access i a old ∙ told.known i a old
+            ∙ ap (λ t. Some t) (same_told i a (kept_name i a old) (kept_chain a.parent (told.parents i a old)))
       ];
       named = λ n a h. elim (same_or_other n opened) [
         | inl same ↦ (id, one, here, name_here ∙ sym same.1)
@@ -189,7 +206,8 @@ module _ (accesses : List live.Access) (name : ℕ → ℕ) (access : Opened) (o
         ]
       ];
       parents = λ i a h. elim (split i a h) [
-        | inl new ↦ subst (λ (x : live.Access). IsLiveIfGiven x.parent more) new.1 (subst (λ o. IsLiveIfGiven o more) (sym parent_of_one) (stay_live parent parent_lives))
+        | inl new ↦ subst (λ (x : live.Access). IsLiveIfGiven x.parent more) new.1
+            (subst (λ o. IsLiveIfGiven o more) (sym parent_of_one) (stay_live parent parent_lives))
         | inr old ↦ stay_live a.parent (told.parents i a old)
       ];
       before = λ i a h. elim (split i a h) [
@@ -198,19 +216,24 @@ module _ (accesses : List live.Access) (name : ℕ → ℕ) (access : Opened) (o
       ];
     }
 
-    pub lent_told : AreTold (accesses ++ record { id = id; own = own; header = header; way = way; parent = parent } ∷ []) (with_at name id.slot opened) (with_at access opened (Some (new_access access name opened own header way parent))) (suc opened)
+    pub lent_told : RepresentAccesses (accesses ++ record { id = id; own = own; header = header; way = way; parent = parent } ∷ [])
+        (with_at name id.slot opened) (with_at access opened (Some (new_access access name opened own header way parent))) (suc opened)
     unfolding more names after
     lent_told = lent_facts
 
-    pub lent_split : (i : AccId) (a : live.Access) → live.access i (accesses ++ record { id = id; own = own; header = header; way = way; parent = parent } ∷ []) ≡ Some a → ((i ≡ id) × (record { id = id; own = own; header = header; way = way; parent = parent } ≡ a)) ⊎ (live.access i accesses ≡ Some a)
+    pub lent_split : (i : AccId) (a : live.Access)
+        → live.access i (accesses ++ record { id = id; own = own; header = header; way = way; parent = parent } ∷ []) ≡ Some a
+        → ((i ≡ id) × (record { id = id; own = own; header = header; way = way; parent = parent } ≡ a)) ⊎ (live.access i accesses ≡ Some a)
     unfolding more one
     lent_split = split
 
-    pub lent_here : live.access id (accesses ++ record { id = id; own = own; header = header; way = way; parent = parent } ∷ []) ≡ Some (record { id = id; own = own; header = header; way = way; parent = parent })
+    pub lent_here : live.access id (accesses ++ record { id = id; own = own; header = header; way = way; parent = parent } ∷ []) ≡ Some
+        (record { id = id; own = own; header = header; way = way; parent = parent })
     unfolding more one
     lent_here = here
 
-    pub lent_stays : (i : AccId) (a : live.Access) → live.access i accesses ≡ Some a → live.access i (accesses ++ record { id = id; own = own; header = header; way = way; parent = parent } ∷ []) ≡ Some a
+    pub lent_stays : (i : AccId) (a : live.Access) → live.access i accesses ≡ Some a
+        → live.access i (accesses ++ record { id = id; own = own; header = header; way = way; parent = parent } ∷ []) ≡ Some a
     unfolding more
     lent_stays = stays
 
@@ -260,7 +283,8 @@ module _ (accesses : List live.Access) (name : ℕ → ℕ) (access : Opened) (o
         true_false e = cc
 
     -- a parent is another one, as the closed one has no child
-    parent_left : (i : AccId) (a : live.Access) → live.access i accesses ≡ Some a → (o : Option AccId) → a.parent ≡ o → IsLiveIfGiven o accesses → (IsLiveIfGiven o left) × (chain_of less name o ≡ chain_of access name o)
+    parent_left : (i : AccId) (a : live.Access) → live.access i accesses ≡ Some a → (o : Option AccId) → a.parent ≡ o → IsLiveIfGiven o accesses
+        → (IsLiveIfGiven o left) × (chain_of less name o ≡ chain_of access name o)
     parent_left i a h None e lives = (tt, refl)
     parent_left i a h (Some p) e lives =
         let q = found (live.access p accesses) lives in
@@ -269,7 +293,8 @@ module _ (accesses : List live.Access) (name : ℕ → ℕ) (access : Opened) (o
           | inr differs ↦ (ap is_some (stays_live p q.0 differs q.1), ap chain_in (other_name p q.0 differs q.1))
         ]
 
-    same_told_left : (i : AccId) (a : live.Access) → chain_of less name a.parent ≡ chain_of access name a.parent → told_access access name i a ≡ told_access less name i a
+    same_told_left : (i : AccId) (a : live.Access) → chain_of less name a.parent ≡ chain_of access name a.parent
+        → abstract_access access name i a ≡ abstract_access less name i a
     same_told_left i a c = rw c refl
 
     name_gone : (n : ℕ) (a : machine.Access) → less n ≡ Some a → (nat_eq n (name id.slot) ≡ false) × (access n ≡ Some a)
@@ -291,7 +316,7 @@ module _ (accesses : List live.Access) (name : ℕ → ℕ) (access : Opened) (o
         clash : (a b n : ℕ) → a ≡ n → a ≡ b → nat_eq n b ≡ false → ⊥
         clash a b n e f h = grind (arith, nat_tests)
 
-    closed_facts : AreTold left name less opened
+    closed_facts : RepresentAccesses left name less opened
     closed_facts = record {
       known = λ i a h. let w = was i a h in
           other_name i a w.0 w.1 ∙ told.known i a w.1 ∙ ap (λ t. Some t) (same_told_left i a (parent_left i a w.1 a.parent refl (told.parents i a w.1)).1);
@@ -301,15 +326,17 @@ module _ (accesses : List live.Access) (name : ℕ → ℕ) (access : Opened) (o
       before = λ i a h. told.before i a (was i a h).1;
     }
 
-    pub closed_told : AreTold (without_access id accesses) name (with_at access (name id.slot) None) opened
+    pub closed_told : RepresentAccesses (without_access id accesses) name (with_at access (name id.slot) None) opened
     unfolding left less
     closed_told = closed_facts
 
     -- who is left, and who stays
-    pub left_was : (i : AccId) (a : live.Access) → live.access i (without_access id accesses) ≡ Some a → (nat_eq i.slot id.slot ≡ false) × (live.access i accesses ≡ Some a)
+    pub left_was : (i : AccId) (a : live.Access) → live.access i (without_access id accesses) ≡ Some a → (nat_eq i.slot id.slot ≡ false)
+        × (live.access i accesses ≡ Some a)
     unfolding left
     left_was = was
 
-    pub left_stays : (i : AccId) (a : live.Access) → nat_eq i.slot id.slot ≡ false → live.access i accesses ≡ Some a → live.access i (without_access id accesses) ≡ Some a
+    pub left_stays : (i : AccId) (a : live.Access) → nat_eq i.slot id.slot ≡ false → live.access i accesses ≡ Some a
+        → live.access i (without_access id accesses) ≡ Some a
     unfolding left
     left_stays = stays_live

@@ -1,4 +1,4 @@
--- How numbers stand to one another, as tests.
+-- How numbers compare, as tests.
 use Rattle.std.proofs.Common.{◌≡◌, ◌<◌, ◌≤◌, ℕ, true, false, nat_eq, nat_lt, ◌⊎◌, arith}
 use Rattle.std.proofs.lemmas.Bool.Decides.{nat_tests}
 

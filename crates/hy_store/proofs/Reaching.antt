@@ -13,48 +13,51 @@ use Rattle.hy_store.specs.declared.store.Store.{Store}
 use Rattle.hy_store.specs.Cells.{Cell}
 use Rattle.hy_store.specs.Memory as memory
 use Rattle.hy_store.specs.Names.{names}
-use Rattle.hy_store.specs.Opened.{told_access}
-use Rattle.hy_store.specs.Sees.{Ghosts, Sees, reach_in, seen, told_slot}
+use Rattle.hy_store.specs.Opened.{abstract_access}
+use Rattle.hy_store.specs.Represents.{Ghosts, Represents, reach_in, represented, abstract_slot}
 use Rattle.hy_store.specs.Frames.{kept, slot_in}
 
 own_of : (o : Option live.Access) (one : live.Access) (own : Range) → o ≡ Some one → IsSomeAnd o (λ a. own ≡ a.own) → own ≡ one.own
 own_of o one own h is = rw h at is
 
-module _ (g : Ghosts) (store : Store) (fun : Fun) (s : State) (sees : Sees g store fun s) where
+module _ (g : Ghosts) (store : Store) (fun : Fun) (s : State) (represents : Represents g store fun s) where
   pub live_is : (b : ℕ) → b < s.counts.blocks → (o : Option (List Cell)) → memory.live store.blocks b ≡ o → is_live s b ≡ is_some o
-  live_is b below None h = sees.held.gone b below h
-  live_is b below (Some found) h = let e = (sees.held.known b found h).live in ap (λ n. nat_eq n 0) e
+  live_is b below None h = represents.held.gone b below h
+  live_is b below (Some found) h = let e = (represents.held.known b found h).live in ap (λ n. nat_eq n 0) e
 
-  module _ (name : ℕ) (id : AccId) (named : names store.opened name ≡ Some id) (own : Range) (is : IsSomeAnd (live.access id store.opened.accesses) (λ a. own ≡ a.own)) where
+  module _ (name : ℕ) (id : AccId) (named : names store.opened name ≡ Some id) (own : Range)
+      (is : IsSomeAnd (live.access id store.opened.accesses) (λ a. own ≡ a.own)) where
     one : live.Access
-    one = (sees.opened.ids name id named).0
+    one = (represents.opened.ids name id named).0
 
     there : live.access id store.opened.accesses ≡ Some one
     unfolding one
-    there = (sees.opened.ids name id named).1
+    there = (represents.opened.ids name id named).1
 
     name_is : g.name id.slot ≡ name
-    name_is = (sees.opened.ids name id named).2
+    name_is = (represents.opened.ids name id named).2
 
     own_is : own ≡ one.own
     own_is = own_of _ one own there is
 
-    found : s.access name ≡ Some (told_access s.access g.name id one)
-    found = ap s.access (sym name_is) ∙ sees.opened.told.known id one there
+    found : s.access name ≡ Some (abstract_access s.access g.name id one)
+    found = ap s.access (sym name_is) ∙ represents.opened.told.known id one there
 
     below : own.block < s.counts.blocks
-    below = let i = sees.opened.inside id one there in omega (arith, i.named, ap (λ (r : Range). r.block) own_is)
+    below = let i = represents.opened.inside id one there in omega (arith, i.named, ap (λ (r : Range). r.block) own_is)
 
     pub checks_in : (offset words : ℕ) (go : checks.Reach → State) → reach_in s name offset words go ≡
         check s kind.Freed (is_some (memory.live store.blocks own.block)) (check s kind.Range (nat_le (offset + words) own.len)
-        (go (seen g s (record { range = record { block = own.block; from = own.from + offset; len = words }; through = Some id }))))
+        (go (represented g s (record { range = record { block = own.block; from = own.from + offset; len = words }; through = Some id }))))
     checks_in offset words go =
-        let P : Range → Type 0 = λ r. reach_in s name offset words go ≡ check s kind.Freed (is_live s r.block) (check s kind.Range (nat_le (offset + words) r.len)
-        (go (seen g s (record { range = record { block = r.block; from = r.from + offset; len = words }; through = Some id })))) in
-        let at_one : P one.own = rw (found, sees.opened.told.known id one there) refl in
+        let P : Range → Type 0 =
+        λ r. reach_in s name offset words go ≡ check s kind.Freed (is_live s r.block) (check s kind.Range (nat_le (offset + words) r.len)
+        (go (represented g s (record { range = record { block = r.block; from = r.from + offset; len = words }; through = Some id })))) in
+        let at_one : P one.own = rw (found, represents.opened.told.known id one there) refl in
         rw (← live_is own.block below (memory.live store.blocks own.block) refl) (subst P (sym own_is) at_one)
 
   -- a place through a slot
-  pub reach_is : (base offset words slot name : ℕ) (go : checks.Reach → State) → base ≡ suc slot → held (told_slot (slot_in (kept store.frames store.frame) slot)) ≡ Some name →
+  pub reach_is : (base offset words slot name : ℕ) (go : checks.Reach → State) → base ≡ suc slot
+      → held (abstract_slot (slot_in (kept store.frames store.frame) slot)) ≡ Some name →
       reach_from s base offset words go ≡ reach_in s name offset words go
-  reach_is base offset words slot name go h is = rw (h, sees.slots slot, is) refl
+  reach_is base offset words slot name go h is = rw (h, represents.slots slot, is) refl

@@ -1,5 +1,6 @@
 -- Rows of cells, by place.
-use Rattle.std.proofs.Common.{◌≡◌, ◌<◌, ◌≤◌, ◌+◌, ◌-◌, ℕ, zero, suc, true, false, ◌⊎◌, inl, inr, List, [], ◌∷◌, ◌++◌, length, take, drop, replicate, Some, None, slice_get, refl, sym, ap, ◌∙◌, arith, rules}
+use Rattle.std.proofs.Common.{◌≡◌, ◌<◌, ◌≤◌, ◌+◌, ◌-◌, ℕ, zero, suc, true, false, ◌⊎◌, inl, inr, List, [], ◌∷◌, ◌++◌, length, take, drop, replicate, Some}
+use Rattle.std.proofs.Common.{None, slice_get, refl, sym, ap, ◌∙◌, arith, rules}
 use Rattle.std.proofs.lemmas.List.{places}
 use Rattle.std.proofs.lemmas.Bool.Decides.{nat_tests}
 use Rattle.hy_object.specs.States.{nth, within}
@@ -52,7 +53,8 @@ module _ {A : Type 0} where
   nth_replicate (suc n) a zero x h = (omega arith, cc)
   nth_replicate (suc n) a (suc i) x h = let so = nth_replicate n a i x h in (omega (arith, so.0), so.1)
 
-  nth_parts : (xs ys : List A) (i : ℕ) (x : A) → nth (xs ++ ys) i ≡ Some x → ((i < length xs) × (nth xs i ≡ Some x)) ⊎ ((length xs ≤ i) × (nth ys (i - length xs) ≡ Some x))
+  nth_parts : (xs ys : List A) (i : ℕ) (x : A) → nth (xs ++ ys) i ≡ Some x → ((i < length xs) × (nth xs i ≡ Some x))
+      ⊎ ((length xs ≤ i) × (nth ys (i - length xs) ≡ Some x))
   nth_parts xs ys i x h =
       elim (below_or i (length xs)) [
         | inl less ↦ inl (less, sym (nth_front xs ys i less) ∙ h)
@@ -63,7 +65,8 @@ module _ {A : Type 0} where
       below_or a b = grind arith
 
   -- a place of a row, of which a part is stored over
-  pub nth_stored : (xs new : List A) (from i : ℕ) (x : A) → from + length new ≤ length xs → nth (take from xs ++ (new ++ drop (from + length new) xs)) i ≡ Some x →
+  pub nth_stored : (xs new : List A) (from i : ℕ) (x : A) → from + length new ≤ length xs
+      → nth (take from xs ++ (new ++ drop (from + length new) xs)) i ≡ Some x →
       ((within from (length new) i ≡ true) × (nth new (i - from) ≡ Some x)) ⊎ ((within from (length new) i ≡ false) × (nth xs i ≡ Some x))
   nth_stored xs new from i x fits h =
       let front : length (take from xs) ≡ from = search (rules, places) in
@@ -74,7 +77,10 @@ module _ {A : Type 0} where
             let le : from ≤ i = omega (arith, p.0, front) in
             elim (nth_parts new (drop (from + length new) xs) (i - from) x (sym (ap (nth (new ++ drop (from + length new) xs)) e) ∙ p.1)) [
               | inl q ↦ inl (inside from (length new) i le (omega (arith, q.0)), q.1)
-              | inr q ↦ inr (outside from (length new) i (inr (omega (arith, q.0, le))), sym (nth_drop (from + length new) xs (i - from - length new) i (omega (arith, q.0, le))) ∙ q.1)
+              | inr q ↦ inr (
+                outside from (length new) i (inr (omega (arith, q.0, le))),
+                sym (nth_drop (from + length new) xs (i - from - length new) i (omega (arith, q.0, le))) ∙ q.1,
+              )
             ]
       ]
     where
@@ -95,7 +101,8 @@ module _ {A : Type 0} where
   length_stored xs new from h = search (rules, places)
 
   -- one more at the end of a row of which each is known
-  pub pushed_get : (xs ys : List A) (x : A) (each : ℕ → A) (n : ℕ) → ys ≡ xs ++ x ∷ [] → length xs ≡ n → ((i : ℕ) → i < n → slice_get xs i ≡ Some (each i)) → x ≡ each n → (i : ℕ) → i < n + 1 → slice_get ys i ≡ Some (each i)
+  pub pushed_get : (xs ys : List A) (x : A) (each : ℕ → A) (n : ℕ) → ys ≡ xs ++ x ∷ [] → length xs ≡ n → ((i : ℕ) → i < n → slice_get xs i ≡ Some (each i))
+      → x ≡ each n → (i : ℕ) → i < n + 1 → slice_get ys i ≡ Some (each i)
   pushed_get xs ys x each n is size known e i below =
       ap (λ zs. slice_get zs i) is ∙ nth_get (xs ++ x ∷ []) i ∙ elim (last_or i n below) [
         | inl less ↦ nth_front xs (x ∷ []) i (omega (arith, less, size)) ∙ sym (nth_get xs i) ∙ known i less

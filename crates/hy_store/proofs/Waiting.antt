@@ -3,13 +3,13 @@ use Rattle.std.proofs.Common.{◌≡◌, ◌+◌, ℕ, suc, false, nat_eq, List,
 use Rattle.hy_links.specs.Chains.{AreApart, times}
 use Rattle.hy_links.proofs.Chains.{times-le}
 use Rattle.hy_object.specs.declared.object.Fun.{Fun}
-use Rattle.hy_object.specs.Controls.{behind}
+use Rattle.hy_object.specs.Controls.{at_next}
 use Rattle.hy_object.specs.States.{State, Activation, nth}
 use Rattle.hy_store.specs.declared.store.Store.{Store}
 use Rattle.hy_store.specs.Frames.{kept, slot_in}
 use Rattle.hy_store.specs.Held.{AreHeld}
 use Rattle.hy_store.specs.Memory.{live}
-use Rattle.hy_store.specs.Sees.{AreOpened, Ghosts, IsActive, IsKept, Sees, told_slot}
+use Rattle.hy_store.specs.Represents.{AreOpened, Ghosts, IsActive, IsKept, Represents, abstract_slot}
 use Rattle.hy_store.proofs.Opening.{frame_apart}
 
 -- the frames of activations
@@ -40,25 +40,30 @@ apart_rest x xs apart f = omega (arith, times-le f x xs, apart f)
 -- WHO GOES ON
 
 -- the running activation, as it is once it waits
-pub running_active : (g : Ghosts) (store : Store) (fun : Fun) (s : State) → Sees g store fun s → IsActive g store s.slots (behind s.now)
-running_active g store fun s sees = record {
-  own = (sees.own.0, ap (live store.blocks) (sym sees.frame) ∙ sees.own.1, sees.own.2 ∙ ap (λ (f : Fun). f.words) sees.fun_is);
-  slots_are = λ k. sees.slots k ∙ ap (λ f. told_slot (slot_in (kept store.frames f) k)) sees.frame;
-  mine = subst (λ f. IsKept (kept store.frames f) s.now.fun s.now.role) sees.frame (subst (λ f. IsKept (kept store.frames store.frame) f s.now.role) sees.fun_is sees.mine);
-  no_array = ap g.is_array (sym sees.frame) ∙ sees.no_array;
+pub running_active : (g : Ghosts) (store : Store) (fun : Fun) (s : State) → Represents g store fun s → IsActive g store s.slots (at_next s.now)
+running_active g store fun s represents = record {
+  own = (represents.own.0, ap (live store.blocks) (sym represents.frame) ∙ represents.own.1, represents.own.2 ∙ ap (λ (f : Fun). f.words) represents.fun_is);
+  slots_are = λ k. represents.slots k ∙ ap (λ f. abstract_slot (slot_in (kept store.frames f) k)) represents.frame;
+  mine = subst (λ f. IsKept (kept store.frames f) s.now.fun s.now.role) represents.frame
+      (subst (λ f. IsKept (kept store.frames store.frame) f s.now.role) represents.fun_is represents.mine);
+  no_array = ap g.is_array (sym represents.frame) ∙ represents.no_array;
 }
 
 -- an activation that waited runs
-pub seen_of : (g : Ghosts) (store : Store) (fun : Fun) (s : State) → AreHeld (live store.blocks) g.is_array s.counts.blocks s.cells s.words s.freed → AreOpened store.opened (live store.blocks) s.counts.blocks g.name s.access s.counts.opened → store.frame ≡ s.now.frame → fun ≡ s.now.fun →
-    IsActive g store s.slots s.now → store.counts ≡ s.counts → ((i : ℕ) (a : Activation) → nth (s.callers ++ s.suspended) i ≡ Some a → IsActive g store s.slots a) → AreApart (s.now.frame ∷ frames_of (s.callers ++ s.suspended)) → Sees g store fun s
+pub seen_of : (g : Ghosts) (store : Store) (fun : Fun) (s : State) → AreHeld (live store.blocks) g.is_array s.counts.blocks s.cells s.words s.freed
+    → AreOpened store.opened (live store.blocks) s.counts.blocks g.name s.access s.counts.opened → store.frame ≡ s.now.frame → fun ≡ s.now.fun →
+    IsActive g store s.slots s.now → store.counts ≡ s.counts
+    → ((i : ℕ) (a : Activation) → nth (s.callers ++ s.suspended) i ≡ Some a → IsActive g store s.slots a)
+    → AreApart (s.now.frame ∷ frames_of (s.callers ++ s.suspended)) → Represents g store fun s
 seen_of g store fun s held opened frame fun_is active counts waiting apart = record {
   held = held;
   opened = opened;
   frame = frame;
   fun_is = fun_is;
   own = (active.own.0, ap (live store.blocks) frame ∙ active.own.1, active.own.2 ∙ ap (λ (f : Fun). f.words) (sym fun_is));
-  slots = λ k. active.slots_are k ∙ ap (λ f. told_slot (slot_in (kept store.frames f) k)) (sym frame);
-  mine = subst (λ f. IsKept (kept store.frames f) fun s.now.role) (sym frame) (subst (λ f. IsKept (kept store.frames s.now.frame) f s.now.role) (sym fun_is) active.mine);
+  slots = λ k. active.slots_are k ∙ ap (λ f. abstract_slot (slot_in (kept store.frames f) k)) (sym frame);
+  mine = subst (λ f. IsKept (kept store.frames f) fun s.now.role) (sym frame)
+      (subst (λ f. IsKept (kept store.frames s.now.frame) f s.now.role) (sym fun_is) active.mine);
   no_array = ap g.is_array frame ∙ active.no_array;
   counts = counts;
   waiting = waiting;
@@ -68,7 +73,8 @@ seen_of g store fun s held opened frame fun_is active counts waiting apart = rec
 -- THE INNERMOST CALLER
 
 -- the innermost of those that wait goes on, and the others still wait
-module _ (g : Ghosts) (store : Store) (fun : Fun) (s : State) (sees : Sees g store fun s) (a : Activation) (rest : List Activation) (is : s.callers ≡ a ∷ rest) where
+module _ (g : Ghosts) (store : Store) (fun : Fun) (s : State) (represents : Represents g store fun s) (a : Activation) (rest : List Activation)
+    (is : s.callers ≡ a ∷ rest) where
   all_are : s.callers ++ s.suspended ≡ a ∷ rest ++ s.suspended
   all_are = ap (λ xs. xs ++ s.suspended) is
 
@@ -76,24 +82,24 @@ module _ (g : Ghosts) (store : Store) (fun : Fun) (s : State) (sees : Sees g sto
   caller_first = ap (λ xs. nth xs 0) all_are
 
   pub caller_active : IsActive g store s.slots a
-  caller_active = sees.waiting 0 a caller_first
+  caller_active = represents.waiting 0 a caller_first
 
   pub rest_behind : (i : ℕ) (b : Activation) → nth (rest ++ s.suspended) i ≡ Some b → nth (s.callers ++ s.suspended) (suc i) ≡ Some b
   rest_behind i b h = ap (λ xs. nth xs (suc i)) all_are ∙ h
 
   pub rest_active : (i : ℕ) (b : Activation) → nth (rest ++ s.suspended) i ≡ Some b → IsActive g store s.slots b
-  rest_active i b h = sees.waiting (suc i) b (rest_behind i b h)
+  rest_active i b h = represents.waiting (suc i) b (rest_behind i b h)
 
   -- the frames of the running one, the caller and the others
   pub all_apart : AreApart (s.now.frame ∷ a.frame ∷ frames_of (rest ++ s.suspended))
-  all_apart = subst (λ xs. AreApart (s.now.frame ∷ frames_of xs)) all_are sees.apart
+  all_apart = subst (λ xs. AreApart (s.now.frame ∷ frames_of xs)) all_are represents.apart
 
   pub caller_apart : AreApart (a.frame ∷ frames_of (rest ++ s.suspended))
   caller_apart = apart_rest s.now.frame (a.frame ∷ frames_of (rest ++ s.suspended)) all_apart
 
   -- the running one's frame is none of theirs
   pub now_not_caller : nat_eq s.now.frame a.frame ≡ false
-  now_not_caller = frame_apart s.now.frame (s.callers ++ s.suspended) sees.apart 0 a caller_first
+  now_not_caller = frame_apart s.now.frame (s.callers ++ s.suspended) represents.apart 0 a caller_first
 
   pub now_not_rest : (i : ℕ) (b : Activation) → nth (rest ++ s.suspended) i ≡ Some b → nat_eq s.now.frame b.frame ≡ false
-  now_not_rest i b h = frame_apart s.now.frame (s.callers ++ s.suspended) sees.apart (suc i) b (rest_behind i b h)
+  now_not_rest i b h = frame_apart s.now.frame (s.callers ++ s.suspended) represents.apart (suc i) b (rest_behind i b h)

@@ -9,10 +9,10 @@ use Rattle.hy_object.specs.States.{State, all_below, nth}
 use Rattle.hy_store.specs.declared.store.Store.{Store}
 use Rattle.hy_store.specs.Cells.{Cell, Unset, Word, Name, every, all_set, no_name, is_plain, cell_in}
 use Rattle.hy_store.specs.Cells as cells
-use Rattle.hy_store.specs.Held.{told_cell, IsGood, Tells}
+use Rattle.hy_store.specs.Held.{abstract_cell, IsGood, Tells}
 use Rattle.hy_store.specs.Memory.{Live, live, IsRow}
-use Rattle.hy_store.specs.Opened.{told_range}
-use Rattle.hy_store.specs.Sees.{Ghosts, Sees}
+use Rattle.hy_store.specs.Opened.{abstract_range}
+use Rattle.hy_store.specs.Represents.{Ghosts, Represents}
 use Rattle.hy_store.proofs.Counted.{both, joined, each_below, all_below_if}
 use Rattle.hy_store.proofs.Rows.{nth_in, nth_there, length_window, nth_get}
 use Rattle.hy_store.proofs.Holding.{tells_window}
@@ -26,43 +26,50 @@ every_if : (p : Cell → Bool) (xs : List Cell) → ((i : ℕ) (c : Cell) → nt
 every_if p [] each = refl
 every_if p (x ∷ xs) each = joined (p x) (every p xs) (each zero x refl) (every_if p xs (λ i c h. each (suc i) c h))
 
-pub every_below : (test : machine.Cell → Bool) (p : Cell → Bool) → ((c : Cell) → test (told_cell c) ≡ p c) → (is_array : ℕ → Bool) (taken : ℕ) (row : List Cell) (f : machine.Cells) → Tells is_array taken row f →
+pub every_below : (test : machine.Cell → Bool) (p : Cell → Bool) → ((c : Cell) → test (abstract_cell c) ≡ p c)
+    → (is_array : ℕ → Bool) (taken : ℕ) (row : List Cell) (f : machine.Cells) → Tells is_array taken row f →
     (n : ℕ) → length row ≡ n → all_below n (λ i. test (f i)) ≡ every p row
 every_below test p agree is_array taken row f tells n size =
     same_from_decides {P = every p row ≡ true} (all_below n (λ i. test (f i))) (every p row) (
-      λ all. every_if p row (λ i c h. sym (agree c) ∙ ap test (sym (tells i c h).0) ∙ each_below n (λ i. test (f i)) all i (subst (λ m. i < m) size (nth_in row i c h))),
-      λ all. all_below_if n (λ i. test (f i)) (λ i below. let at = nth_there row i (subst (λ m. i < m) (sym size) below) in ap test (tells i at.0 at.1).0 ∙ agree at.0 ∙ every_then p row all i at.0 at.1),
+      λ all. every_if p row (λ i c h. sym (agree c) ∙ ap test (sym (tells i c h).0)
+          ∙ each_below n (λ i. test (f i)) all i (subst (λ m. i < m) size (nth_in row i c h))),
+      λ all. all_below_if n (λ i. test (f i)) (λ i below. let at = nth_there row i (subst (λ m. i < m) (sym size) below) in ap test (tells i at.0 at.1).0
+          ∙ agree at.0 ∙ every_then p row all i at.0 at.1),
     )
     (λ h. h, λ h. h)
 
-module _ (g : Ghosts) (store : Store) (fun : Fun) (s : State) (sees : Sees g store fun s) (r : Range) (row : List Cell) (is : IsRow (live store.blocks) r row) where
-  pub row_tells : Tells g.is_array s.counts.blocks row (machine.window s.cells (told_range r))
-  row_tells = rw is.row_is (tells_window g.is_array s.counts.blocks is.found (s.cells r.block) r.from r.len (sees.held.known r.block is.found is.is).tells)
+module _ (g : Ghosts) (store : Store) (fun : Fun) (s : State) (represents : Represents g store fun s) (r : Range) (row : List Cell)
+    (is : IsRow (live store.blocks) r row) where
+  pub row_tells : Tells g.is_array s.counts.blocks row (machine.window s.cells (abstract_range r))
+  row_tells = rw is.row_is (tells_window g.is_array s.counts.blocks is.found (s.cells r.block) r.from r.len
+      (represents.held.known r.block is.found is.is).tells)
 
   pub row_size : length row ≡ r.len
   row_size = ap length is.row_is ∙ length_window is.found r.from r.len is.fits
 
-  pub whole_is : is_whole s (told_range r) ≡ all_set row
-  whole_is = every_below is_set cells.is_set set_so g.is_array s.counts.blocks row (machine.window s.cells (told_range r)) row_tells r.len row_size
+  pub whole_is : is_whole s (abstract_range r) ≡ all_set row
+  whole_is = every_below is_set cells.is_set set_so g.is_array s.counts.blocks row (machine.window s.cells (abstract_range r)) row_tells r.len row_size
     where
-      set_so : (c : Cell) → is_set (told_cell c) ≡ cells.is_set c
+      set_so : (c : Cell) → is_set (abstract_cell c) ≡ cells.is_set c
       set_so Unset = refl
       set_so (Word n) = refl
       set_so (Name b) = refl
 
-  pub nameless_is : is_nameless s (told_range r) ≡ no_name row
-  nameless_is = every_below (λ c. not (is_name c)) is_plain plain_so g.is_array s.counts.blocks row (machine.window s.cells (told_range r)) row_tells r.len row_size
+  pub nameless_is : is_nameless s (abstract_range r) ≡ no_name row
+  nameless_is =
+      every_below (λ c. not (is_name c)) is_plain plain_so g.is_array s.counts.blocks row (machine.window s.cells (abstract_range r)) row_tells r.len
+      row_size
     where
-      plain_so : (c : Cell) → not (is_name (told_cell c)) ≡ is_plain c
+      plain_so : (c : Cell) → not (is_name (abstract_cell c)) ≡ is_plain c
       plain_so Unset = refl
       plain_so (Word n) = refl
       plain_so (Name b) = refl
 
   -- the cell at a place of the row
-  pub cell_is : (i : ℕ) → i < r.len → machine.window s.cells (told_range r) i ≡ told_cell (cell_in (slice_get row i))
+  pub cell_is : (i : ℕ) → i < r.len → machine.window s.cells (abstract_range r) i ≡ abstract_cell (cell_in (slice_get row i))
   cell_is i below =
       let at = nth_there row i (subst (λ m. i < m) (sym row_size) below) in
-      (row_tells i at.0 at.1).0 ∙ ap told_cell (sym (ap cell_in (nth_get row i ∙ at.1)))
+      (row_tells i at.0 at.1).0 ∙ ap abstract_cell (sym (ap cell_in (nth_get row i ∙ at.1)))
 
   -- a name in the row is that of an array's block
   pub name_is_good : (i : ℕ) → i < r.len → (b : ℕ) → cell_in (slice_get row i) ≡ Name b → IsGood g.is_array s.counts.blocks (Name b)

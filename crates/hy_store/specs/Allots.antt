@@ -4,7 +4,7 @@ use Rattle.hy_access.specs.declared.access.Range.{Range}
 use Rattle.hy_store.specs.declared.store.Store.{Store}
 use Rattle.hy_store.specs.Cells.{Cell, Unset, Word, Name}
 use Rattle.hy_store.specs.Memory.{IsRow, live, with_block}
-use Rattle.hy_store.specs.Sees.{Stores}
+use Rattle.hy_store.specs.Represents.{Stores}
 
 -- a block with these cells was taken under the next name
 pub record Takes (old new : Store) (row : List Cell) : Type 0 where

@@ -1,6 +1,6 @@
 -- What a run begins with, and what a call hands over.
 use Rattle.std.specs.Prelude.{◌≡◌, ℕ, false, cond, nat_eq, [], replicate, Some, None}
-use Rattle.hy_object.specs.Steps.{no_counts}
+use Rattle.hy_base.specs.Counted.{no_counts}
 use Rattle.hy_store.specs.declared.frame.Role.TheVariants.{Called}
 use Rattle.hy_store.specs.declared.frame.Slot.TheVariants.{Empty}
 use Rattle.hy_store.specs.declared.store.Store.{Store}
@@ -8,14 +8,14 @@ use Rattle.hy_store.specs.Cells.{Unset}
 use Rattle.hy_store.specs.Frames.{kept}
 use Rattle.hy_store.specs.Memory.{live}
 use Rattle.hy_store.specs.Names.{names}
-use Rattle.hy_store.specs.Sees.{Ghosts}
+use Rattle.hy_store.specs.Represents.{Ghosts}
 use Rattle.hy_object.specs.declared.object.Fun.{Fun}
 use Rattle.hy_object.specs.declared.stuck.Kind.TheVariants as kind
 use Rattle.hy_object.specs.Checks.{Reach, check, is_whole, may_write, own_words}
 use Rattle.hy_object.specs.Controls.{can_give}
 use Rattle.hy_object.specs.States.{State}
 
--- what is handed to that function is there and may be moved
+-- what is handed to that function exists and may be moved
 abbrev pub hands_to : State → Fun → (slot word : ℕ) → (Reach → State) → State
 hands_to s fun slot word go =
     check s kind.Slot (can_give s slot fun.accesses)

@@ -1,4 +1,4 @@
--- Closing, where it is told from outside whether a suspended subscript was lent the access.
+-- Closing, where the caller says whether a suspended subscript was lent the access.
 use Rattle.std.specs.Prelude.{◌≡◌, ℕ, suc, Bool, not, ◌&&◌}
 use Rattle.hy_object.specs.declared.stuck.Kind.TheVariants as kind
 use Rattle.hy_object.specs.Checks.{check, with_some, own_slot}

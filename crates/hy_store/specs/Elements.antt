@@ -1,5 +1,6 @@
 -- What an instruction on the elements of an array looks at, in parts.
-use Rattle.std.specs.Prelude.{◌≡◌, ◌≢◌, ℕ, zero, suc, ◌+◌, ◌-◌, ◌*◌, ◌&&◌, not, cond, nat_le, nat_lt, true, IsSome, Option, Some, None, Result, Ok, Err, ℤ, pos, negsuc}
+use Rattle.std.specs.Prelude.{◌≡◌, ◌≢◌, ℕ, zero, suc, ◌+◌, ◌-◌, ◌*◌, ◌&&◌, not, cond, nat_le, nat_lt, true, IsSome, Option, Some, None, Result, Ok, Err, ℤ}
+use Rattle.std.specs.Prelude.{pos, negsuc}
 use Rattle.hy_access.specs.declared.access.Range.{Range}
 use Rattle.hy_base.specs.declared.run.End.TheVariants as end
 use Rattle.hy_base.specs.declared.run.TrapKind.TheVariants as trap
@@ -18,18 +19,18 @@ use Rattle.hy_store.specs.declared.halt.Halt.{Halt}
 use Rattle.hy_store.specs.declared.halt.Halt.TheVariants as halt
 use Rattle.hy_store.specs.declared.store.Store.{Store}
 use Rattle.hy_store.specs.Memory.{live}
-use Rattle.hy_store.specs.Opened.{told_range}
-use Rattle.hy_store.specs.Sees.{Ghosts, Reaches, Sees}
+use Rattle.hy_store.specs.Opened.{abstract_range}
+use Rattle.hy_store.specs.Represents.{Ghosts, Reaches, Represents}
 
--- its two cells are there, and its block is live and an array's
+-- its two cells exist, and its block is live and an array's
 pub record IsArray (store : Store) (fun : Fun) (a : Array) : Type 0 where
   pub cells : Reaches store 2 a.cells
   pub lives : IsSome (live store.blocks a.block)
-  pub is_array : (g : Ghosts) (s : State) → Sees g store fun s → g.is_array a.block ≡ true
+  pub is_array : (g : Ghosts) (s : State) → Represents g store fun s → g.is_array a.block ≡ true
 
 -- CHECKS THAT MAY TRAP
 
--- the step is stuck or ends the run; it does not ask, and memory is not wanting
+-- the step is stuck or ends the run; it does not ask, and memory does not run out
 abbrev pub Halts : State → Halt → State → Type 0
 Halts s (halt.Stuck why) t = t ≡ stuck s why
 Halts s (halt.Ended e) t = (t ≡ ends s e) × (e ≢ end.Asks)
@@ -61,7 +62,7 @@ range_in block k width words = cond (nat_le (k * width + width) words) (Some (re
 -- a range that meets neither of two others
 abbrev pub clear : Option Range → (a b : machine.Range) → Option Range
 clear None a b = None
-clear (Some r) a b = cond (is_apart (told_range r) a b) (Some r) None
+clear (Some r) a b = cond (is_apart (abstract_range r) a b) (Some r) None
 
 -- the cells of an element, reached as its array is
 abbrev pub element_of : Reach → (block k width : ℕ) → Reach
@@ -82,10 +83,10 @@ sides s p word width go =
     (check s kind.Access (may_write s y)
     (go x block count y))))
 
--- room behind the last element for one more, and the count with it
-abbrev pub behind : State → Reach → (block : ℕ) → ℤ → Reach → (width : ℕ) → (machine.Range → ℤ → State) → State
-behind s x block (negsuc n) y width go = stuck s kind.Range
-behind s x block (pos count) y width go =
+-- room after the last element for one more, and the count with it
+abbrev pub after_last : State → Reach → (block : ℕ) → ℤ → Reach → (width : ℕ) → (machine.Range → ℤ → State) → State
+after_last s x block (negsuc n) y width go = stuck s kind.Range
+after_last s x block (pos count) y width go =
     check s kind.Range (nat_le (suc count * room width) (s.words block) && is_apart (element block count width) x.range y.range)
     (go (element block count width) (pos (suc count)))
 

@@ -13,16 +13,16 @@ pub record Kept : Type 0 where
   pub slots : List Slot
   pub role : Role
 
-abbrev pub told_frame : Frame → Kept
-told_frame frame = record { slots = frame.slots.items; role = frame.role }
+abbrev pub abstract_frame : Frame → Kept
+abstract_frame frame = record { slots = frame.slots.items; role = frame.role }
 
 abbrev pub Known : Type 0
 Known = ℕ → Option Kept
 
 abbrev pub kept : Frames → Known
-kept frames name = option_map told_frame (get nat_eq frames.live name)
+kept frames name = option_map abstract_frame (get nat_eq frames.live name)
 
--- what a slot holds; one that is not there is empty
+-- what a slot holds; one that does not exist is empty
 abbrev pub held_at : Option Slot → Slot
 held_at None = Empty
 held_at (Some slot) = slot

@@ -1,14 +1,14 @@
--- How the blocks of the program stand for those of the machine.
+-- How the blocks of the program represent those of the machine.
 use Rattle.std.specs.Prelude.{◌≡◌, ◌<◌, ◌≤◌, ◌^◌, ◌==◌, ℕ, Bool, true, false, List, length, Some, None}
 use Rattle.hy_object.specs.States as machine
 use Rattle.hy_object.specs.States.{nth}
 use Rattle.hy_store.specs.Cells.{Cell, Unset, Word, Name}
 use Rattle.hy_store.specs.Memory.{Live}
 
-abbrev pub told_cell : Cell → machine.Cell
-told_cell Unset = machine.Unset
-told_cell (Word n) = machine.Word n
-told_cell (Name b) = machine.Name b
+abbrev pub abstract_cell : Cell → machine.Cell
+abstract_cell Unset = machine.Unset
+abstract_cell (Word n) = machine.Word n
+abstract_cell (Name b) = machine.Name b
 
 -- a name that a cell holds is that of an array's block, which was taken
 abbrev pub IsGood : (is_array : ℕ → Bool) → (taken : ℕ) → Cell → Type 0
@@ -18,7 +18,7 @@ IsGood is_array taken (Name b) = (b < taken) × (is_array b ≡ true)
 
 -- what the machine has at the first places is what these cells hold
 abbrev pub Tells : (is_array : ℕ → Bool) → (taken : ℕ) → List Cell → machine.Cells → Type 0
-Tells is_array taken cells f = (i : ℕ) (c : Cell) → nth cells i ≡ Some c → (f i ≡ told_cell c) × IsGood is_array taken c
+Tells is_array taken cells f = (i : ℕ) (c : Cell) → nth cells i ≡ Some c → (f i ≡ abstract_cell c) × IsGood is_array taken c
 
 -- a live block
 pub record IsBlock (is_array : ℕ → Bool) (taken words freed name : ℕ) (f : machine.Cells) (cells : List Cell) : Type 0 where

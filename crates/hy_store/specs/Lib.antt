@@ -8,7 +8,7 @@ pub mod Held
 pub mod Memory
 pub mod Names
 pub mod Opened
-pub mod Passes
+pub mod Switches
 pub mod Returns
-pub mod Sees
-pub mod Replies
+pub mod Represents
+pub mod Executes

@@ -30,7 +30,7 @@ HasCells found from words = IsSomeAnd found (λ cells. from + words ≤ length c
 abbrev pub Becomes : (old new : Live) → ℕ → (List Cell → List Cell) → Type 0
 Becomes old new name f = IsSomeAnd (old name) (λ cells. (other : ℕ) → new other ≡ with_block old name (Some (f cells)) other)
 
--- these are the cells of that range, which is there
+-- these are the cells of that range, which exists
 pub record IsRow (blocks : Live) (range : Range) (row : List Cell) : Type 0 where
   pub found : List Cell
   pub is : blocks range.block ≡ Some found

@@ -13,11 +13,11 @@ Ids = ℕ → Option AccId
 abbrev pub names : Opened → Ids
 names opened name = get nat_eq opened.ids name
 
--- what stands for that name is changed, all else equal
+-- what has that name is changed, all else equal
 abbrev pub with_name : Ids → ℕ → Option AccId → Ids
 with_name ids name id other = cond (nat_eq name other) id (ids other)
 
--- a new access is behind all others, and is known by that name
+-- a new access is after all others, and is known by that name
 pub record IsLent (old new : Opened) (name : ℕ) (own : Range) (header : Option Range) (way : Way) (parent : Option AccId) : Type 0 where
   pub id : AccId
   pub new_id : IsLive id old.accesses → ⊥

@@ -7,8 +7,8 @@ use Rattle.hy_store.specs.declared.store.Store.{Store}
 use Rattle.hy_store.specs.Cells.{Cell}
 use Rattle.hy_store.specs.Frames.{kept, with_frame}
 use Rattle.hy_store.specs.Memory.{live, with_block}
-use Rattle.hy_store.specs.Opened.{told_range}
-use Rattle.hy_store.specs.Passes.{with_one_freed}
+use Rattle.hy_store.specs.Opened.{abstract_range}
+use Rattle.hy_store.specs.Switches.{with_one_freed}
 
 -- whether a block has so many cells from that place on
 abbrev pub has_cells : Option (List Cell) → (from words : ℕ) → Bool
@@ -17,7 +17,7 @@ has_cells (Some cells) from words = nat_le (from + words) (length cells)
 
 -- words of a frame, which are reached without an access
 abbrev pub in_frame : Range → Reach
-in_frame range = record { range = told_range range; way = way.Write; chain = [] }
+in_frame range = record { range = abstract_range range; way = way.Write; chain = [] }
 
 -- The frame of the running activation is freed, which is counted, and what was kept of it is forgotten.
 pub record FreesFrame (old new : Store) : Type 0 where

@@ -3,8 +3,8 @@ ghost use Rattle.std.specs.Prelude.{◌≡◌, ◌<◌, ◌≤◌, ◌^◌, pos,
 ghost use Rattle.hy_object.specs.Arrays.{free_array, grow, new_array};
 ghost use Rattle.hy_store.specs.Allots.{Allots, Frees, Regrows, Takes, larger};
 ghost use Rattle.hy_store.specs.Memory.{live, HasCells};
-ghost use Rattle.hy_store.specs.Replies.{Replies};
-ghost use Rattle.hy_store.specs.Sees.{IsSeen};
+ghost use Rattle.hy_store.specs.Executes.{MayRunOut, StoreExecutes};
+ghost use Rattle.hy_store.specs.Represents.{RepresentsSome};
 
 use crate::arrays::{Array, room};
 use crate::blocks::padded;
@@ -109,7 +109,8 @@ impl Store {
         requires all { HasCells (live self.old.blocks array.block) 0 words }
         requires more { words ≤ larger }
         ensures small { OnOk result (larger < 2 ^ 32) }
-        ensures regrows { OnOk result (Regrows self.old self.new array.cells.range (record { block = array.block; from = 0; len = words }) larger array.count) }
+        ensures regrows { OnOk result (Regrows self.old self.new array.cells.range
+            (record { block = array.block; from = 0; len = words }) larger array.count) }
     {
         let Ok(larger) = u32::try_from(larger) else {
             return Err(NoMemory);
@@ -123,8 +124,8 @@ impl Store {
 
     /// Makes an array without elements, in a new block of no words.
     pub fn new_array(&mut self, alloc: Global, fun: &Fun, place: Place) -> Result<(), Halt>
-        requires { IsSeen self.old fun.now }
-        ensures { Replies fun.now self.old self.new result (λ s. new_array s place) }
+        requires { RepresentsSome self.old fun.now }
+        ensures { StoreExecutes MayRunOut fun.now self.old self.new result (λ s. new_array s place) }
     {
         let x = self.reach(fun, place, 2)?;
         check(may_write(&self.opened.accesses, x), Kind::Access)?;
@@ -135,8 +136,8 @@ impl Store {
 
     /// Frees the block of an array, in which no name is left.
     pub fn free_array(&mut self, fun: &Fun, place: Place) -> Result<(), Halt>
-        requires { IsSeen self.old fun.now }
-        ensures { Replies fun.now self.old self.new result (λ s. free_array s place) }
+        requires { RepresentsSome self.old fun.now }
+        ensures { StoreExecutes MayRunOut fun.now self.old self.new result (λ s. free_array s place) }
     {
         let array = self.array(fun, place, Way::Write)?;
         let all = Store::whole(array.block, self.size(fun, array.block));
@@ -146,10 +147,10 @@ impl Store {
         Ok(())
     }
 
-    /// Sees to room for one more element: where there is none, all cells move to a larger block.
+    /// Makes room for one more element: where there is none, all cells move to a larger block.
     pub fn grow(&mut self, alloc: Global, fun: &Fun, place: Place, width: u32) -> Result<(), Halt>
-        requires { IsSeen self.old fun.now }
-        ensures { Replies fun.now self.old self.new result (λ s. grow s place width) }
+        requires { RepresentsSome self.old fun.now }
+        ensures { StoreExecutes MayRunOut fun.now self.old self.new result (λ s. grow s place width) }
     {
         let array = self.array(fun, place, Way::Write)?;
         let words = self.size(fun, array.block);

@@ -5,10 +5,10 @@ ghost use Rattle.hy_object.specs.Checks as checks;
 ghost use Rattle.hy_object.specs.Elements.{array, pair_in, room};
 ghost use Rattle.hy_object.specs.States.{State};
 ghost use Rattle.hy_store.specs.Cells.{Name};
-ghost use Rattle.hy_store.specs.Held.{told_cell};
+ghost use Rattle.hy_store.specs.Held.{abstract_cell};
 ghost use Rattle.hy_store.specs.Memory.{live, HasCells};
-ghost use Rattle.hy_store.specs.Replies.{Replies};
-ghost use Rattle.hy_store.specs.Sees.{Ghosts, IsSeen, Reaches, Sees, follow, seen};
+ghost use Rattle.hy_store.specs.Executes.{InPlace, StoreExecutes};
+ghost use Rattle.hy_store.specs.Represents.{Ghosts, RepresentsSome, Reaches, Represents, follow, represented};
 
 use crate::cell::{Cell, cell_at};
 use crate::halt::Halt;
@@ -27,7 +27,8 @@ pub struct Array {
 // What two cells hold: both are set, and then a name and a word.
 fn pair_in(first: Cell, second: Cell) -> Result<(u64, i64), Kind>
     ensures name { IfOk result (λ pair. first ≡ Name pair.0) }
-    ensures checks { (s : State) (go : ℕ → ℤ → State) → pair_in s (told_cell first) (told_cell second) go ≡ follow s result (λ pair. go pair.0 pair.1) }
+    ensures checks { (s : State) (go : ℕ → ℤ → State) → pair_in s (abstract_cell first) (abstract_cell second) go
+        ≡ follow s result (λ pair. go pair.0 pair.1) }
 {
     match (first, second) {
         (Cell::Unset, _) | (_, Cell::Unset) => Err(Kind::Unset),
@@ -46,10 +47,10 @@ pub fn room(width: u32) -> u32
 impl Store {
     /// How many words a live block has.
     pub fn size(&self, fun: &Fun, block: u64) -> u32
-        requires seen { IsSeen self.now fun.now }
+        requires represented { RepresentsSome self.now fun.now }
         requires lives { IsSome (live self.now.blocks block) }
         ensures fits { HasCells (live self.now.blocks block) 0 result }
-        ensures words { (g : Ghosts) (s : State) → Sees g self.now fun.now s → s.words block ≡ result }
+        ensures words { (g : Ghosts) (s : State) → Represents g self.now fun.now s → s.words block ≡ result }
     {
         let _fun = fun;
         match self.blocks.cells(block) {
@@ -60,11 +61,12 @@ impl Store {
 
     /// The array at a place, whose two cells may be used in that way.
     pub fn array(&self, fun: &Fun, place: Place, way: Way) -> Result<Array, Kind>
-        requires { IsSeen self.now fun.now }
+        requires { RepresentsSome self.now fun.now }
         ensures reached { IfOk result (λ a. Reaches self.now 2 a.cells) }
         ensures lives { IfOk result (λ a. IsSome (live self.now.blocks a.block)) }
-        ensures is_array { IfOk result (λ a. (g : Ghosts) (s : State) → Sees g self.now fun.now s → g.is_array a.block ≡ true) }
-        ensures checks { (g : Ghosts) (s : State) → Sees g self.now fun.now s → (go : checks.Reach → ℕ → ℤ → State) → array s place way go ≡ follow s result (λ a. go (seen g s a.cells) a.block a.count) }
+        ensures is_array { IfOk result (λ a. (g : Ghosts) (s : State) → Represents g self.now fun.now s → g.is_array a.block ≡ true) }
+        ensures checks { (g : Ghosts) (s : State) → Represents g self.now fun.now s → (go : checks.Reach → ℕ → ℤ → State)
+            → array s place way go ≡ follow s result (λ a. go (represented g s a.cells) a.block a.count) }
     {
         let x = self.reach(fun, place, 2)?;
         check(may_use(&self.opened.accesses, way, x), Kind::Access)?;
@@ -80,8 +82,8 @@ impl Store {
 
     /// Stores the count of an array.
     pub fn count(&mut self, fun: &Fun, to: u32, place: Place) -> Result<(), Halt>
-        requires { IsSeen self.old fun.now }
-        ensures { Replies fun.now self.old self.new result (λ s. count_of s to place) }
+        requires { RepresentsSome self.old fun.now }
+        ensures { StoreExecutes InPlace fun.now self.old self.new result (λ s. count_of s to place) }
     {
         let reach = self.to_word(fun, to)?;
         let array = self.array(fun, place, Way::Read)?;

@@ -13,7 +13,7 @@ use std::mem;
 /// The live blocks of memory by their names. A block that is freed leaves the table, and gives its memory back.
 ///
 /// The cells of one block may be at hand: those are found with no look at the table, where other cells stand in for them.
-/// A clause sees for each name the cells of its block, or none where no block of that name is live. Memory is taken by
+/// A contract sees for each name the cells of its block, or none where no block of that name is live. Memory is taken by
 /// `take` alone, which changes nothing where it refuses.
 #[derive(Drop)]
 pub struct Blocks {
@@ -31,7 +31,7 @@ fn is_at_hand(at_hand: Option<u64>, name: u64) -> bool
     }
 }
 
-/// These cells, and unset ones behind them up to so many words.
+/// These cells, and unset ones after them up to so many words.
 pub fn padded(alloc: Global, first: &[Cell], words: u32) -> Result<Vec<Cell>, NoMemory>
     requires { length first.now ≤ words }
     ensures { IfOk result (λ cells. cells.items ≡ first.now ++ replicate (words - length first.now) Unset) }
@@ -99,7 +99,7 @@ impl Blocks {
         }
     }
 
-    /// Takes a block with these cells. The only refusal is want of memory, and changes nothing.
+    /// Takes a block with these cells. It fails only out of memory, and then nothing has changed.
     pub fn take(&mut self, name: u64, cells: Vec<Cell>) -> Result<(), NoMemory>
         ensures taken { OnOk result ((other : ℕ) → live self.new other ≡ with_block (live self.old) name (Some (cells.items)) other) }
         ensures refused { OnErr result ((other : ℕ) → live self.new other ≡ live self.old other) }

@@ -35,7 +35,7 @@ pub fn are_nameless(cells: &[Cell]) -> bool
     true
 }
 
-/// The cell at that place; where there is none it is unset.
+/// The cell at that place; one that does not exist is unset.
 pub fn cell_at(cells: &[Cell], at: usize) -> Cell
     ensures { result ≡ cell_in (slice_get cells.now at) }
 {

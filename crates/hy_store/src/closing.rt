@@ -5,8 +5,8 @@ ghost use Rattle.hy_object.specs.States.{Activation, State, nth};
 ghost use Rattle.hy_store.specs.Closes.{Closes, close_unless};
 ghost use Rattle.hy_store.specs.Frames.{kept};
 ghost use Rattle.hy_store.specs.Names.{CanClose, names};
-ghost use Rattle.hy_store.specs.Replies.{Replies};
-ghost use Rattle.hy_store.specs.Sees.{Ghosts, IsSeen, Sees, told_slot};
+ghost use Rattle.hy_store.specs.Executes.{MayRunOut, StoreExecutes};
+ghost use Rattle.hy_store.specs.Represents.{Ghosts, RepresentsSome, Represents, abstract_slot};
 
 use crate::frame::Slot;
 use crate::halt::Halt;
@@ -16,7 +16,7 @@ use hy_object::{Fun, Kind};
 
 /// The access that the activation of a slot opened itself.
 pub fn opened_in(slot: Slot) -> Option<u64>
-    ensures { result ≡ opened_in (told_slot slot) }
+    ensures { result ≡ opened_in (abstract_slot slot) }
 {
     match slot {
         Slot::Filled(name) => Some(name),
@@ -26,7 +26,7 @@ pub fn opened_in(slot: Slot) -> Option<u64>
 
 // Whether a slot holds the access of that name, which the caller gave.
 fn is_given(slot: Slot, name: u64) -> bool
-    ensures { is_given (told_slot slot) name ≡ result }
+    ensures { is_given (abstract_slot slot) name ≡ result }
 {
     match slot {
         Slot::Given(given) => given == name,
@@ -38,7 +38,7 @@ impl Store {
     /// Whether a waiting or suspended activation was lent the access of that name: one of its first `accesses` slots was
     /// given it.
     pub fn was_lent(&self, fun: &Fun, frame: u64, accesses: u32, name: u64) -> bool
-        ensures { (g : Ghosts) (s : State) → Sees g self.now fun.now s → (i : ℕ) (a : Activation) → nth (s.callers ++ s.suspended) i ≡ Some a
+        ensures { (g : Ghosts) (s : State) → Represents g self.now fun.now s → (i : ℕ) (a : Activation) → nth (s.callers ++ s.suspended) i ≡ Some a
             → a.frame ≡ frame → a.fun.accesses ≡ accesses → was_lent s name a ≡ result }
     {
         let _fun = fun;
@@ -52,8 +52,8 @@ impl Store {
 
     // Whether no live access was made from the one of that name.
     fn is_childless(&self, fun: &Fun, name: u64) -> bool
-        requires { IsSeen self.now fun.now }
-        ensures tells { (g : Ghosts) (s : State) → Sees g self.now fun.now s → is_childless s name ≡ result }
+        requires { RepresentsSome self.now fun.now }
+        ensures tells { (g : Ghosts) (s : State) → Represents g self.now fun.now s → is_childless s name ≡ result }
         ensures closable { result ≡ true → CanClose (names self.now.opened name) self.now.opened.accesses }
     {
         let _fun = fun;
@@ -78,12 +78,12 @@ impl Store {
         Ok(())
     }
 
-    /// Closes the access that a slot of the running activation was filled with, unless it has a child, or is told to be lent
+    /// Closes the access that a slot of the running activation was filled with, unless it has a child, or is said to be lent
     /// to a suspended subscript.
     pub fn close(&mut self, fun: &Fun, slot: u32, lent: bool) -> Result<(), Halt>
-        requires seen { IsSeen self.old fun.now }
+        requires represented { RepresentsSome self.old fun.now }
         requires slot { slot < fun.now.slots }
-        ensures { Replies fun.now self.old self.new result (λ s. close_unless s slot lent) }
+        ensures { StoreExecutes MayRunOut fun.now self.old self.new result (λ s. close_unless s slot lent) }
     {
         let Some(name) = opened_in(self.frames.slot(self.frame, slot)) else {
             return Err(Halt::Stuck(Kind::Slot));

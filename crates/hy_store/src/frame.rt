@@ -1,7 +1,7 @@
 // What the running and the waiting activations have beside their cells.
 ghost use Rattle.std.specs.Prelude.{◌≡◌, ◌<◌, ℕ, None, Some, length, slice_get, OnErr, OnOk, IsSome, IsSomeAnd};
 ghost use Rattle.std.specs.Option.{option_map};
-ghost use Rattle.hy_store.specs.Frames.{held_at, kept, slot_in, slots_at, role_at, told_frame, with_frame, with_role, with_slot, Changes};
+ghost use Rattle.hy_store.specs.Frames.{held_at, kept, slot_in, slots_at, role_at, abstract_frame, with_frame, with_role, with_slot, Changes};
 
 use hy_base::NoMemory;
 use std::alloc::Global;
@@ -39,7 +39,7 @@ pub struct Frame {
 
 /// The slots and roles of all live activations, by the names of the blocks that are their frames.
 ///
-/// A clause sees for each name what is kept of the activation, or nothing. Memory is taken by `take` alone, which changes
+/// A contract sees for each name what is kept of the activation, or nothing. Memory is taken by `take` alone, which changes
 /// nothing where it refuses.
 #[derive(Drop)]
 pub struct Frames {
@@ -75,7 +75,7 @@ impl Frames {
         }
     }
 
-    /// What a slot of an activation holds; one that is not there is empty.
+    /// What a slot of an activation holds; one that does not exist is empty.
     pub fn slot(&self, frame: u64, slot: u32) -> Slot
         ensures { result ≡ slot_in (kept self.now frame) slot }
     {
@@ -115,9 +115,9 @@ impl Frames {
         }
     }
 
-    /// Keeps what a new activation has. The only refusal is want of memory, and changes nothing.
+    /// Keeps what a new activation has. It fails only out of memory, and then nothing has changed.
     pub fn take(&mut self, frame: u64, one: Frame) -> Result<(), NoMemory>
-        ensures taken { OnOk result ((other : ℕ) → kept self.new other ≡ with_frame (kept self.old) frame (Some (told_frame one)) other) }
+        ensures taken { OnOk result ((other : ℕ) → kept self.new other ≡ with_frame (kept self.old) frame (Some (abstract_frame one)) other) }
         ensures refused { OnErr result ((other : ℕ) → kept self.new other ≡ kept self.old other) }
     {
         self.live.insert(frame, one)?;

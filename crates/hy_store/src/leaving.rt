@@ -8,10 +8,10 @@ ghost use Rattle.hy_object.specs.Controls.{frees_frame, goes_back, is_closed, is
 ghost use Rattle.hy_object.specs.States.{State};
 ghost use Rattle.hy_object.specs.States as states;
 ghost use Rattle.hy_store.specs.Memory.{live, HasCells};
-ghost use Rattle.hy_store.specs.Opened.{told_range};
-ghost use Rattle.hy_store.specs.Passes.{LeadsTo, Passes, Returned, Waits};
+ghost use Rattle.hy_store.specs.Opened.{abstract_range};
+ghost use Rattle.hy_store.specs.Switches.{LeadsTo, StoreSwitches, Returned, Waits};
 ghost use Rattle.hy_store.specs.Returns.{FreesFrame, has_cells, in_frame};
-ghost use Rattle.hy_store.specs.Sees.{Ghosts, IsSeen, Reaches, Sees, follow, seen, told_role, told_slot};
+ghost use Rattle.hy_store.specs.Represents.{Ghosts, RepresentsSome, Reaches, Represents, follow, represented, abstract_role, abstract_slot};
 
 use crate::frame::{Role, Slot};
 use crate::halt::Halt;
@@ -24,7 +24,7 @@ use std::alloc::Global;
 
 // Whether the activation itself filled a slot, and it is still open.
 fn is_open(slot: Slot) -> bool
-    ensures { is_open (told_slot slot) ≡ result }
+    ensures { is_open (abstract_slot slot) ≡ result }
 {
     match slot {
         Slot::Empty | Slot::Given(_) => false,
@@ -46,7 +46,7 @@ impl Store {
 
     // Whether the running activation has closed all that it opened.
     fn is_closed(&self, fun: &Fun) -> bool
-        ensures { (g : Ghosts) (s : State) → Sees g self.now fun.now s → is_closed s ≡ result }
+        ensures { (g : Ghosts) (s : State) → Represents g self.now fun.now s → is_closed s ≡ result }
     {
         for k in 0..fun.slots {
             if is_open(self.frames.slot(self.frame, k)) {
@@ -58,9 +58,9 @@ impl Store {
 
     // Whether no name is left in the frame but in the words of the result.
     fn leaves_none(&self, fun: &Fun, words: Range) -> bool
-        requires seen { IsSeen self.now fun.now }
+        requires represented { RepresentsSome self.now fun.now }
         requires inside { words.from + words.len ≤ fun.now.words }
-        ensures { (g : Ghosts) (s : State) → Sees g self.now fun.now s → leaves_none s (told_range words) ≡ result }
+        ensures { (g : Ghosts) (s : State) → Represents g self.now fun.now s → leaves_none s (abstract_range words) ≡ result }
     {
         let all = fun.words;
         let end = words.from + words.len;
@@ -72,7 +72,7 @@ impl Store {
             },
             through: None,
         };
-        let behind = Reach {
+        let past = Reach {
             range: Range {
                 block: self.frame,
                 from: end,
@@ -80,7 +80,7 @@ impl Store {
             },
             through: None,
         };
-        self.is_nameless(fun, before) && self.is_nameless(fun, behind)
+        self.is_nameless(fun, before) && self.is_nameless(fun, past)
     }
 
     // Whether one more block that is freed can be counted.
@@ -114,7 +114,7 @@ impl Store {
 
     // Ends the running activation. The one in the caller's frame goes on, and with none the run is done.
     fn end_activation(&mut self, caller: Option<u64>) -> Result<(), Halt>
-        ensures { (fun next : Fun) → Passes fun next self.old self.new result (Waits caller next) Returned (λ s. goes_back (frees_frame s) s.callers) }
+        ensures { (fun next : Fun) → StoreSwitches fun next self.old self.new result (Waits caller next) Returned (λ s. goes_back (frees_frame s) s.callers) }
     {
         self.can_free()?;
         match caller {
@@ -131,10 +131,12 @@ impl Store {
 
     // Moves the result to the caller's words from that one on, and ends the running activation.
     fn fill(&mut self, alloc: Global, fun: &Fun, x: Reach, to: u32, caller: u64) -> Result<(), Halt>
-        requires seen { IsSeen self.old fun.now }
+        requires represented { RepresentsSome self.old fun.now }
         requires cells { HasCells (live self.old.blocks x.range.block) x.range.from x.range.len }
         requires inside { x.range.from + x.range.len ≤ fun.now.words }
-        ensures { (next : Fun) → Passes fun.now next self.old self.new result (Waits (Some caller) next) Returned (λ s. returns s (in_frame x.range) (states.Called to) s.callers) }
+        ensures { (next : Fun)
+            → StoreSwitches fun.now next self.old self.new result (Waits (Some caller) next) Returned
+            (λ s. returns s (in_frame x.range) (states.Called to) s.callers) }
     {
         let y = Reach {
             range: Range {
@@ -159,9 +161,11 @@ impl Store {
 
     // Ends the running activation, whose result nobody takes.
     fn finish(&mut self, fun: &Fun, x: Reach) -> Result<(), Halt>
-        requires seen { IsSeen self.old fun.now }
+        requires represented { RepresentsSome self.old fun.now }
         requires inside { x.range.from + x.range.len ≤ fun.now.words }
-        ensures { (to : ℕ) (next : Fun) → Passes fun.now next self.old self.new result (Waits None next) Returned (λ s. returns s (in_frame x.range) (states.Called to) s.callers) }
+        ensures { (to : ℕ) (next : Fun)
+            → StoreSwitches fun.now next self.old self.new result (Waits None next) Returned
+            (λ s. returns s (in_frame x.range) (states.Called to) s.callers) }
     {
         check(self.is_closed(fun), Kind::Slot)?;
         check(self.leaves_none(fun, x.range), Kind::Lost)?;
@@ -170,9 +174,10 @@ impl Store {
 
     // Ends a subscript that has yielded, which has no result.
     fn end_slide(&mut self, fun: &Fun, x: Reach, caller: Option<u64>) -> Result<(), Halt>
-        requires seen { IsSeen self.old fun.now }
+        requires represented { RepresentsSome self.old fun.now }
         requires inside { x.range.from + x.range.len ≤ fun.now.words }
-        ensures { (next : Fun) → Passes fun.now next self.old self.new result (Waits caller next) Returned (λ s. returns s (in_frame x.range) states.Sliding s.callers) }
+        ensures { (next : Fun)
+            → StoreSwitches fun.now next self.old self.new result (Waits caller next) Returned (λ s. returns s (in_frame x.range) states.Sliding s.callers) }
     {
         check(self.is_closed(fun), Kind::Slot)?;
         check(x.range.len == 0, Kind::Order)?;
@@ -182,7 +187,7 @@ impl Store {
 
     // Why a subscript may not return before its yield.
     fn refusal(&self, fun: &Fun) -> Kind
-        ensures { (g : Ghosts) (s : State) → Sees g self.now fun.now s → check s kind.Slot (is_closed s) (stuck s kind.Order) ≡ stuck s result }
+        ensures { (g : Ghosts) (s : State) → Represents g self.now fun.now s → check s kind.Slot (is_closed s) (stuck s kind.Order) ≡ stuck s result }
     {
         if self.is_closed(fun) {
             Kind::Order
@@ -193,10 +198,12 @@ impl Store {
 
     // The words of the result: they may be moved.
     fn result_words(&self, fun: &Fun, word: u32) -> Result<Reach, Kind>
-        requires { IsSeen self.now fun.now }
+        requires { RepresentsSome self.now fun.now }
         ensures reached { IfOk result (Reaches self.now fun.now.result) }
         ensures inside { IfOk result (λ r. r.range.from + r.range.len ≤ fun.now.words) }
-        ensures checks { (g : Ghosts) (s : State) → Sees g self.now fun.now s → (go : checks.Reach → State) → own_words s word fun.now.result (λ x. check s kind.Access (may_write s x) (check s kind.Unset (is_whole s x.range) (go x))) ≡ follow s result (λ r. go (seen g s r)) }
+        ensures checks { (g : Ghosts) (s : State) → Represents g self.now fun.now s → (go : checks.Reach → State)
+            → own_words s word fun.now.result (λ x. check s kind.Access (may_write s x) (check s kind.Unset (is_whole s x.range) (go x))) ≡ follow s result
+            (λ r. go (represented g s r)) }
     {
         let x = self.own_words(fun, word, fun.result)?;
         check(may_write(&self.opened.accesses, x), Kind::Access)?;
@@ -213,10 +220,12 @@ impl Store {
         role: Role,
         caller: Option<u64>,
     ) -> Result<(), Halt>
-        requires seen { IsSeen self.old fun.now }
+        requires represented { RepresentsSome self.old fun.now }
         requires cells { HasCells (live self.old.blocks x.range.block) x.range.from x.range.len }
         requires inside { x.range.from + x.range.len ≤ fun.now.words }
-        ensures { (next : Fun) → Passes fun.now next self.old self.new result (Waits caller next) Returned (λ s. returns s (in_frame x.range) (told_role role) s.callers) }
+        ensures { (next : Fun)
+            → StoreSwitches fun.now next self.old self.new result (Waits caller next) Returned
+            (λ s. returns s (in_frame x.range) (abstract_role role) s.callers) }
     {
         match role {
             Role::Called(to) => match caller {
@@ -238,8 +247,8 @@ impl Store {
         next: &Fun,
         caller: Option<u64>,
     ) -> Result<(), Halt>
-        requires { IsSeen self.old fun.now }
-        ensures { Passes fun.now next.now self.old self.new result (Waits caller next.now) Returned (λ s. leave s word) }
+        requires { RepresentsSome self.old fun.now }
+        ensures { StoreSwitches fun.now next.now self.old self.new result (Waits caller next.now) Returned (λ s. leave s word) }
     {
         let _next = next;
         let x = self.result_words(fun, word)?;

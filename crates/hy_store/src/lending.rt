@@ -4,9 +4,9 @@ ghost use Rattle.hy_access.specs.Accesses.{IsLiveIfGiven};
 ghost use Rattle.hy_object.specs.Checks.{is_empty};
 ghost use Rattle.hy_object.specs.Lending.{lend};
 ghost use Rattle.hy_store.specs.Frames.{kept};
-ghost use Rattle.hy_store.specs.Opened.{told_way};
-ghost use Rattle.hy_store.specs.Replies.{Replies};
-ghost use Rattle.hy_store.specs.Sees.{IsSeen, Opens, told_slot};
+ghost use Rattle.hy_store.specs.Opened.{abstract_way};
+ghost use Rattle.hy_store.specs.Executes.{MayRunOut, StoreExecutes};
+ghost use Rattle.hy_store.specs.Represents.{RepresentsSome, Opens, abstract_slot};
 
 use crate::frame::Slot;
 use crate::halt::Halt;
@@ -18,7 +18,7 @@ use hy_object::{Fun, Kind, Place, Way};
 
 // The way, as accesses keep it.
 pub(crate) fn kept_way(way: Way) -> hy_access::Way
-    ensures { told_way result ≡ way }
+    ensures { abstract_way result ≡ way }
 {
     match way {
         Way::Read => hy_access::Way::Read,
@@ -28,7 +28,7 @@ pub(crate) fn kept_way(way: Way) -> hy_access::Way
 
 /// Whether a slot holds no access.
 pub fn is_empty(slot: Slot) -> bool
-    ensures { is_empty (told_slot slot) ≡ result }
+    ensures { is_empty (abstract_slot slot) ≡ result }
 {
     match slot {
         Slot::Empty => true,
@@ -69,9 +69,9 @@ impl Store {
         words: u32,
         way: Way,
     ) -> Result<(), Halt>
-        requires seen { IsSeen self.old fun.now }
+        requires represented { RepresentsSome self.old fun.now }
         requires slot { slot < fun.now.slots }
-        ensures { Replies fun.now self.old self.new result (λ s. lend s slot place words way) }
+        ensures { StoreExecutes MayRunOut fun.now self.old self.new result (λ s. lend s slot place words way) }
     {
         let empty = is_empty(self.frames.slot(self.frame, slot));
         check(empty, Kind::Slot)?;

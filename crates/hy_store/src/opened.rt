@@ -38,7 +38,7 @@ impl Opened {
         }
     }
 
-    /// Opens an access under that name. The only refusal is want of memory; then the name stands for none.
+    /// Opens an access under that name. It fails only out of memory; then nothing has that name.
     pub fn lend(
         &mut self,
         name: u64,

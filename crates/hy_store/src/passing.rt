@@ -4,8 +4,8 @@ ghost use Rattle.std.specs.Prelude.{◌≡◌, ◌<◌, Some};
 ghost use Rattle.hy_object.specs.Controls.{Taken, resumes, taken, yield};
 ghost use Rattle.hy_object.specs.States.{State};
 ghost use Rattle.hy_store.specs.Frames.{kept};
-ghost use Rattle.hy_store.specs.Passes.{CanTake, HandedOut, Passes, Waits, slot_for};
-ghost use Rattle.hy_store.specs.Sees.{Ghosts, IsSeen, Sees};
+ghost use Rattle.hy_store.specs.Switches.{CanTake, HandedOut, StoreSwitches, Waits, slot_for};
+ghost use Rattle.hy_store.specs.Represents.{Ghosts, RepresentsSome, Represents};
 
 use crate::frame::{Role, Slot};
 use crate::halt::Halt;
@@ -31,10 +31,10 @@ impl Store {
         next: &Fun,
         caller: Option<u64>,
     ) -> Result<(), Halt>
-        requires seen { IsSeen self.old fun.now }
+        requires represented { RepresentsSome self.old fun.now }
         requires slot { slot < fun.now.slots }
         requires takes { CanTake (kept self.old.frames) self.old.frame caller }
-        ensures { Passes fun.now next.now self.old self.new result (Waits caller next.now) HandedOut (λ s. yield s slot) }
+        ensures { StoreSwitches fun.now next.now self.old self.new result (Waits caller next.now) HandedOut (λ s. yield s slot) }
     {
         let (_fun, _next) = (fun, next);
         let Some(name) = held(self.frames.slot(self.frame, slot)) else {
@@ -56,10 +56,10 @@ impl Store {
     /// Lets the suspended subscript in that frame, whose function is `next`, go on, and empties the slot of the running
     /// activation that its yield filled.
     pub fn wake(&mut self, fun: &Fun, slot: u32, next: &Fun, frame: u64)
-        requires seen { IsSeen self.old fun.now }
+        requires represented { RepresentsSome self.old fun.now }
         requires slot { slot < fun.now.slots }
-        ensures { (g : Ghosts) (s : State) (t : Taken) → Sees g self.old fun.now s → taken frame s.suspended ≡ Some t → t.found.fun ≡ next.now
-            → Sees g self.new next.now (resumes s slot t) }
+        ensures { (g : Ghosts) (s : State) (t : Taken) → Represents g self.old fun.now s → taken frame s.suspended ≡ Some t → t.found.fun ≡ next.now
+            → Represents g self.new next.now (resumes s slot t) }
     {
         let (_fun, _next) = (fun, next);
         self.frames.set_slot(self.frame, slot, Slot::Empty);

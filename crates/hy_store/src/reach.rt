@@ -3,7 +3,7 @@ ghost use Rattle.std.specs.Prelude.{◌≡◌, ℕ};
 ghost use Rattle.hy_access.specs.Accesses.{IsLiveIfGiven};
 ghost use Rattle.hy_object.specs.Checks.{may_read, may_use, may_write};
 ghost use Rattle.hy_object.specs.States.{State};
-ghost use Rattle.hy_store.specs.Opened.{AreTold, told_reach};
+ghost use Rattle.hy_store.specs.Opened.{RepresentAccesses, abstract_reach};
 
 use hy_access::{AccId, Accesses, Range};
 use hy_object::Way;
@@ -18,7 +18,8 @@ pub struct Reach {
 /// Whether no live access forbids that the cells are read.
 pub fn may_read(accesses: &Accesses, reach: Reach) -> bool
     requires { IsLiveIfGiven reach.through accesses.now }
-    ensures { (s : State) (name : ℕ → ℕ) → AreTold accesses.now name s.access s.counts.opened → may_read s (told_reach s.access name reach.range reach.through) ≡ result }
+    ensures { (s : State) (name : ℕ → ℕ) → RepresentAccesses accesses.now name s.access s.counts.opened
+        → may_read s (abstract_reach s.access name reach.range reach.through) ≡ result }
 {
     accesses.may_read(reach.range, reach.through)
 }
@@ -26,7 +27,8 @@ pub fn may_read(accesses: &Accesses, reach: Reach) -> bool
 /// Whether no live access forbids that the cells are written, and the one that they are reached through writes.
 pub fn may_write(accesses: &Accesses, reach: Reach) -> bool
     requires { IsLiveIfGiven reach.through accesses.now }
-    ensures { (s : State) (name : ℕ → ℕ) → AreTold accesses.now name s.access s.counts.opened → may_write s (told_reach s.access name reach.range reach.through) ≡ result }
+    ensures { (s : State) (name : ℕ → ℕ) → RepresentAccesses accesses.now name s.access s.counts.opened
+        → may_write s (abstract_reach s.access name reach.range reach.through) ≡ result }
 {
     accesses.may_write(reach.range, reach.through)
 }
@@ -35,7 +37,8 @@ pub fn may_write(accesses: &Accesses, reach: Reach) -> bool
 #[tactic(auto, using(crate::proofs::Holding::same_or_other))]
 pub fn may_use(accesses: &Accesses, way: Way, reach: Reach) -> bool
     requires { IsLiveIfGiven reach.through accesses.now }
-    ensures { (s : State) (name : ℕ → ℕ) → AreTold accesses.now name s.access s.counts.opened → may_use s way (told_reach s.access name reach.range reach.through) ≡ result }
+    ensures { (s : State) (name : ℕ → ℕ) → RepresentAccesses accesses.now name s.access s.counts.opened
+        → may_use s way (abstract_reach s.access name reach.range reach.through) ≡ result }
 {
     match way {
         Way::Read => may_read(accesses, reach),

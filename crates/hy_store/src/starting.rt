@@ -8,11 +8,12 @@ ghost use Rattle.hy_object.specs.Checks.{with_turn};
 ghost use Rattle.hy_object.specs.Checks as checks;
 ghost use Rattle.hy_object.specs.Controls.{can_give, start};
 ghost use Rattle.hy_object.specs.States.{State};
-ghost use Rattle.hy_store.specs.Opened.{told_range};
+ghost use Rattle.hy_store.specs.Opened.{abstract_range};
 ghost use Rattle.hy_store.specs.Calls.{IsBegun, hands_to, no_ghosts};
 ghost use Rattle.hy_store.specs.Frames.{kept};
 ghost use Rattle.hy_store.specs.Memory.{live, HasCells};
-ghost use Rattle.hy_store.specs.Sees.{AreFirst, Ghosts, IsSeen, Reaches, Sees, Starts, first_slot, follow, given_slot, seen, told_role, told_slot};
+ghost use Rattle.hy_store.specs.Represents.{AreFirst, Ghosts, RepresentsSome, Reaches, Represents, Starts, first_slot, follow, given_slot, represented};
+ghost use Rattle.hy_store.specs.Represents.{abstract_role, abstract_slot};
 
 use crate::blocks::{Blocks, padded};
 use crate::frame::{Frame, Frames, Role, Slot};
@@ -49,8 +50,9 @@ impl Store {
     pub fn begin(alloc: Global, main: &Fun) -> Result<Store, NoMemory>
         requires { main.now.words < 2 ^ 32 }
         ensures begins { IfOk result (λ store. IsBegun store main.now) }
-        ensures ready { IfOk result (λ store. IsSeen store main.now) }
-        ensures seen { IfOk result (λ store. (object : Object) (input : List ℕ) (cut : Bool) (n : ℕ) → main_of object ≡ main.now → Sees no_ghosts store main.now (begin object input cut (suc n))) }
+        ensures ready { IfOk result (λ store. RepresentsSome store main.now) }
+        ensures represented { IfOk result (λ store. (object : Object) (input : List ℕ) (cut : Bool) (n : ℕ) → main_of object ≡ main.now
+            → Represents no_ghosts store main.now (begin object input cut (suc n))) }
     {
         let mut blocks = Blocks::new(alloc);
         let mut frames = Frames::new(alloc);
@@ -97,10 +99,10 @@ impl Store {
         Ok(row)
     }
 
-    // Whether the caller's slots from that one on are there and filled, as many as the callee is lent.
+    // Whether the caller's slots from that one on exist and are filled, as many as the callee is lent.
     fn can_give(&self, fun: &Fun, callee: &Fun, slot: u32) -> bool
         requires { slot ≤ fun.now.slots }
-        ensures { (g : Ghosts) (s : State) → Sees g self.now fun.now s → can_give s slot callee.now.accesses ≡ result }
+        ensures { (g : Ghosts) (s : State) → Represents g self.now fun.now s → can_give s slot callee.now.accesses ≡ result }
     {
         if !fits(slot, callee.accesses, fun.slots) {
             return false;
@@ -113,12 +115,13 @@ impl Store {
         true
     }
 
-    /// What is handed to a function: its slots are there, and its words may be moved.
+    /// What is handed to a function: its slots exist, and its words may be moved.
     pub fn hands_over(&self, fun: &Fun, callee: &Fun, slot: u32, word: u32) -> Result<Reach, Kind>
-        requires seen { IsSeen self.now fun.now }
+        requires represented { RepresentsSome self.now fun.now }
         requires slot { slot ≤ fun.now.slots }
         ensures reached { IfOk result (Reaches self.now callee.now.owned) }
-        ensures checks { (g : Ghosts) (s : State) → Sees g self.now fun.now s → (go : checks.Reach → State) → hands_to s callee.now slot word go ≡ follow s result (λ r. go (seen g s r)) }
+        ensures checks { (g : Ghosts) (s : State) → Represents g self.now fun.now s → (go : checks.Reach → State)
+            → hands_to s callee.now slot word go ≡ follow s result (λ r. go (represented g s r)) }
     {
         check(self.can_give(fun, callee, slot), Kind::Slot)?;
         let x = self.own_words(fun, word, callee.owned)?;
@@ -143,8 +146,9 @@ impl Store {
         requires other { reach.range.block < self.old.counts.blocks }
         requires lent { callee.now.accesses ≤ callee.now.slots }
         ensures starts { OnOk result (Starts self.old self.new callee.now slot reach.range role) }
-        ensures seen { OnOk result ((fun : Fun) (g : Ghosts) (s : State) → Sees g self.old fun s → (number left : ℕ)
-            → (after : Ghosts) × Sees after self.new callee.now (start (with_turn s left) number callee.now slot (told_range reach.range) (told_role role))) }
+        ensures represented { OnOk result ((fun : Fun) (g : Ghosts) (s : State) → Represents g self.old fun s → (number left : ℕ)
+            → (after : Ghosts)
+            × Represents after self.new callee.now (start (with_turn s left) number callee.now slot (abstract_range reach.range) (abstract_role role))) }
     {
         let name = self.counts.blocks;
         if name == u64::MAX {

@@ -1,14 +1,15 @@
 // What an instruction looks at before it changes anything: the memory that the running activation reaches.
 ghost use Rattle.std.specs.Prelude.{◌≡◌, ◌≤◌, ◌+◌, ℕ, ℤ, nat_le, length, replicate, IfOk, OnOk, IsSomeAnd, Some};
 ghost use Rattle.hy_access.specs.Accesses as live_access;
-ghost use Rattle.hy_object.specs.Checks.{check, word_in, is_whole, is_nameless, may_read, may_use, may_write, own_words, reach, read_word, to_word, held, own_slot, with_some};
+ghost use Rattle.hy_object.specs.Checks.{check, word_in, is_whole, is_nameless, may_read, may_use, may_write, own_words, reach, read_word, to_word, held};
+ghost use Rattle.hy_object.specs.Checks.{own_slot, with_some};
 ghost use Rattle.hy_object.specs.Checks as checks;
 ghost use Rattle.hy_object.specs.States.{State};
 ghost use Rattle.hy_store.specs.Memory.{live, HasCells, IsRow};
 ghost use Rattle.hy_store.specs.Cells.{Unset};
-ghost use Rattle.hy_store.specs.Held.{told_cell};
-ghost use Rattle.hy_store.specs.Opened.{told_range};
-ghost use Rattle.hy_store.specs.Sees.{Ghosts, Sees, IsSeen, Moves, Reaches, Stores, follow, reach_in, seen, told_slot};
+ghost use Rattle.hy_store.specs.Held.{abstract_cell};
+ghost use Rattle.hy_store.specs.Opened.{abstract_range};
+ghost use Rattle.hy_store.specs.Represents.{Ghosts, Represents, RepresentsSome, Moves, Reaches, Stores, follow, reach_in, represented, abstract_slot};
 
 use crate::blocks::Blocks;
 use crate::cell::{Cell, are_nameless, are_set, cell_at, window};
@@ -33,10 +34,11 @@ pub struct Store {
 impl Store {
     /// So many words of the own frame.
     pub fn own_words(&self, fun: &Fun, word: u32, words: u32) -> Result<Reach, Kind>
-        requires { IsSeen self.now fun.now }
+        requires { RepresentsSome self.now fun.now }
         ensures reached { IfOk result (Reaches self.now words) }
         ensures inside { IfOk result (λ r. r.range.from + r.range.len ≤ fun.now.words) }
-        ensures checks { (g : Ghosts) (s : State) → Sees g self.now fun.now s → (go : checks.Reach → State) → own_words s word words go ≡ follow s result (λ r. go (seen g s r)) }
+        ensures checks { (g : Ghosts) (s : State) → Represents g self.now fun.now s → (go : checks.Reach → State)
+            → own_words s word words go ≡ follow s result (λ r. go (represented g s r)) }
     {
         if !fits(word, words, fun.words) {
             return Err(Kind::Range);
@@ -53,9 +55,10 @@ impl Store {
 
     /// So many words at a place.
     pub fn reach(&self, fun: &Fun, place: Place, words: u32) -> Result<Reach, Kind>
-        requires { IsSeen self.now fun.now }
+        requires { RepresentsSome self.now fun.now }
         ensures reached { IfOk result (Reaches self.now words) }
-        ensures checks { (g : Ghosts) (s : State) → Sees g self.now fun.now s → (go : checks.Reach → State) → reach s place words go ≡ follow s result (λ r. go (seen g s r)) }
+        ensures checks { (g : Ghosts) (s : State) → Represents g self.now fun.now s → (go : checks.Reach → State)
+            → reach s place words go ≡ follow s result (λ r. go (represented g s r)) }
     {
         if place.base == 0 {
             return self.own_words(fun, place.offset, words);
@@ -67,9 +70,9 @@ impl Store {
     }
 
     /// Brings the frame of the running activation to hand, so that its words are found with no look at the table of blocks.
-    /// What is seen stays.
+    /// What is represented stays.
     pub fn settle(&mut self)
-        ensures { (g : Ghosts) (fun : Fun) (s : State) → Sees g self.old fun s → Sees g self.new fun s }
+        ensures { (g : Ghosts) (fun : Fun) (s : State) → Represents g self.old fun s → Represents g self.new fun s }
     {
         self.blocks.bring(self.frame);
     }
@@ -112,7 +115,7 @@ impl Store {
         Ok(self.cells(reach).to_vec(alloc)?)
     }
 
-    /// Moves cells from one range to another of as many, which it does not meet. Where memory is wanting nothing is done.
+    /// Moves cells from one range to another of as many, which it does not meet. Where memory runs out nothing is done.
     pub fn transfer(&mut self, alloc: Global, from: Reach, to: Reach) -> Result<(), NoMemory>
         requires from { HasCells (live self.old.blocks from.range.block) from.range.from from.range.len }
         requires to { HasCells (live self.old.blocks to.range.block) to.range.from to.range.len }
@@ -128,7 +131,7 @@ impl Store {
     /// Whether each cell is set.
     pub fn is_whole(&self, fun: &Fun, reach: Reach) -> bool
         requires { HasCells (live self.now.blocks reach.range.block) reach.range.from reach.range.len }
-        ensures { (g : Ghosts) (s : State) → Sees g self.now fun.now s → is_whole s (told_range reach.range) ≡ result }
+        ensures { (g : Ghosts) (s : State) → Represents g self.now fun.now s → is_whole s (abstract_range reach.range) ≡ result }
     {
         let _fun = fun;
         are_set(self.cells(reach))
@@ -137,7 +140,7 @@ impl Store {
     /// Whether no cell holds a name.
     pub fn is_nameless(&self, fun: &Fun, reach: Reach) -> bool
         requires { HasCells (live self.now.blocks reach.range.block) reach.range.from reach.range.len }
-        ensures { (g : Ghosts) (s : State) → Sees g self.now fun.now s → is_nameless s (told_range reach.range) ≡ result }
+        ensures { (g : Ghosts) (s : State) → Represents g self.now fun.now s → is_nameless s (abstract_range reach.range) ≡ result }
     {
         let _fun = fun;
         are_nameless(self.cells(reach))
@@ -145,8 +148,8 @@ impl Store {
 
     /// The word in a word of the own frame.
     pub fn read_word(&self, fun: &Fun, word: u32) -> Result<i64, Kind>
-        requires { IsSeen self.now fun.now }
-        ensures { (g : Ghosts) (s : State) → Sees g self.now fun.now s → (go : ℤ → State) → read_word s word go ≡ follow s result go }
+        requires { RepresentsSome self.now fun.now }
+        ensures { (g : Ghosts) (s : State) → Represents g self.now fun.now s → (go : ℤ → State) → read_word s word go ≡ follow s result go }
     {
         let reach = self.own_words(fun, word, 1)?;
         check(may_read(&self.opened.accesses, reach), Kind::Access)?;
@@ -155,9 +158,10 @@ impl Store {
 
     /// A word of the own frame that is to be stored.
     pub fn to_word(&self, fun: &Fun, word: u32) -> Result<Reach, Kind>
-        requires { IsSeen self.now fun.now }
+        requires { RepresentsSome self.now fun.now }
         ensures reached { IfOk result (Reaches self.now 1) }
-        ensures checks { (g : Ghosts) (s : State) → Sees g self.now fun.now s → (go : checks.Reach → State) → to_word s word go ≡ follow s result (λ r. go (seen g s r)) }
+        ensures checks { (g : Ghosts) (s : State) → Represents g self.now fun.now s → (go : checks.Reach → State)
+            → to_word s word go ≡ follow s result (λ r. go (represented g s r)) }
     {
         let reach = self.own_words(fun, word, 1)?;
         check(may_write(&self.opened.accesses, reach), Kind::Access)?;
@@ -165,9 +169,10 @@ impl Store {
     }
 
     fn reach_through(&self, fun: &Fun, name: u64, offset: u32, words: u32) -> Result<Reach, Kind>
-        requires { IsSeen self.now fun.now }
+        requires { RepresentsSome self.now fun.now }
         ensures reached { IfOk result (Reaches self.now words) }
-        ensures checks { (g : Ghosts) (s : State) → Sees g self.now fun.now s → (go : checks.Reach → State) → reach_in s name offset words go ≡ follow s result (λ r. go (seen g s r)) }
+        ensures checks { (g : Ghosts) (s : State) → Represents g self.now fun.now s → (go : checks.Reach → State)
+            → reach_in s name offset words go ≡ follow s result (λ r. go (represented g s r)) }
     {
         let Some(id) = self.opened.find(name) else {
             return Err(Kind::Slot);
@@ -199,7 +204,7 @@ pub fn check(holds: bool, why: Kind) -> Result<(), Kind>
 
 // The word in a cell.
 fn word_in(cell: Cell) -> Result<i64, Kind>
-    ensures { (s : State) (go : ℤ → State) → word_in s (told_cell cell) go ≡ follow s result go }
+    ensures { (s : State) (go : ℤ → State) → word_in s (abstract_cell cell) go ≡ follow s result go }
 {
     match cell {
         Cell::Unset => Err(Kind::Unset),
@@ -217,7 +222,7 @@ pub fn fits(from: u32, words: u32, all: u32) -> bool
 
 /// The access that a slot holds.
 pub fn held(slot: Slot) -> Option<u64>
-    ensures { result ≡ held (told_slot slot) }
+    ensures { result ≡ held (abstract_slot slot) }
 {
     match slot {
         Slot::Empty => None,

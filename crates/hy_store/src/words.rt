@@ -6,8 +6,8 @@ ghost use Rattle.hy_object.specs.States.{nth};
 ghost use Rattle.hy_object.specs.Words.{const, calculate, compare, copy, demand, invert, move, negate};
 ghost use Rattle.hy_store.specs.Cells.{Word};
 ghost use Rattle.hy_store.specs.Memory.{live, HasCells};
-ghost use Rattle.hy_store.specs.Replies.{Replies, calculated, compared};
-ghost use Rattle.hy_store.specs.Sees.{IsSeen, Stores};
+ghost use Rattle.hy_store.specs.Executes.{InPlace, MayRunOut, StoreExecutes, calculated, compared};
+ghost use Rattle.hy_store.specs.Represents.{RepresentsSome, Stores};
 ghost use Rattle.hy_store.specs.declared.halt.Halt.TheVariants.{Ended};
 
 use crate::cell::Cell;
@@ -34,8 +34,8 @@ pub fn trap(object: &Object, why: TrapKind, span: u32) -> Halt
 impl Store {
     /// Stores a word.
     pub fn constant(&mut self, fun: &Fun, to: u32, value: i64) -> Result<(), Halt>
-        requires { IsSeen self.old fun.now }
-        ensures { Replies fun.now self.old self.new result (λ s. const s to value) }
+        requires { RepresentsSome self.old fun.now }
+        ensures { StoreExecutes InPlace fun.now self.old self.new result (λ s. const s to value) }
     {
         let reach = self.to_word(fun, to)?;
         check(self.is_nameless(fun, reach), Kind::Lost)?;
@@ -54,8 +54,8 @@ impl Store {
         b: u32,
         span: u32,
     ) -> Result<(), Halt>
-        requires { IsSeen self.old fun.now }
-        ensures { Replies fun.now self.old self.new result (λ s. calculate object.now s to a b span (calculated operation)) }
+        requires { RepresentsSome self.old fun.now }
+        ensures { StoreExecutes InPlace fun.now self.old self.new result (λ s. calculate object.now s to a b span (calculated operation)) }
     {
         let reach = self.to_word(fun, to)?;
         let m = self.read_word(fun, a)?;
@@ -79,8 +79,8 @@ impl Store {
         a: u32,
         span: u32,
     ) -> Result<(), Halt>
-        requires { IsSeen self.old fun.now }
-        ensures { Replies fun.now self.old self.new result (λ s. negate object.now s to a span) }
+        requires { RepresentsSome self.old fun.now }
+        ensures { StoreExecutes InPlace fun.now self.old self.new result (λ s. negate object.now s to a span) }
     {
         let reach = self.to_word(fun, to)?;
         let n = self.read_word(fun, a)?;
@@ -103,8 +103,8 @@ impl Store {
         a: u32,
         b: u32,
     ) -> Result<(), Halt>
-        requires { IsSeen self.old fun.now }
-        ensures { Replies fun.now self.old self.new result (λ s. compare s to a b (compared comparison)) }
+        requires { RepresentsSome self.old fun.now }
+        ensures { StoreExecutes InPlace fun.now self.old self.new result (λ s. compare s to a b (compared comparison)) }
     {
         let reach = self.to_word(fun, to)?;
         let m = self.read_word(fun, a)?;
@@ -117,8 +117,8 @@ impl Store {
 
     /// Stores whether a word is 0.
     pub fn invert(&mut self, fun: &Fun, to: u32, a: u32) -> Result<(), Halt>
-        requires { IsSeen self.old fun.now }
-        ensures { Replies fun.now self.old self.new result (λ s. invert s to a) }
+        requires { RepresentsSome self.old fun.now }
+        ensures { StoreExecutes InPlace fun.now self.old self.new result (λ s. invert s to a) }
     {
         let reach = self.to_word(fun, to)?;
         let n = self.read_word(fun, a)?;
@@ -137,8 +137,8 @@ impl Store {
         from: Place,
         words: u32,
     ) -> Result<(), Halt>
-        requires { IsSeen self.old fun.now }
-        ensures { Replies fun.now self.old self.new result (λ s. copy s to from words) }
+        requires { RepresentsSome self.old fun.now }
+        ensures { StoreExecutes MayRunOut fun.now self.old self.new result (λ s. copy s to from words) }
     {
         let x = self.reach(fun, to, words)?;
         check(may_write(&self.opened.accesses, x), Kind::Access)?;
@@ -161,8 +161,8 @@ impl Store {
         from: Place,
         words: u32,
     ) -> Result<(), Halt>
-        requires { IsSeen self.old fun.now }
-        ensures { Replies fun.now self.old self.new result (λ s. move s to from words) }
+        requires { RepresentsSome self.old fun.now }
+        ensures { StoreExecutes MayRunOut fun.now self.old self.new result (λ s. move s to from words) }
     {
         let x = self.reach(fun, to, words)?;
         check(may_write(&self.opened.accesses, x), Kind::Access)?;
@@ -177,8 +177,8 @@ impl Store {
 
     /// Traps where a word is 0.
     pub fn demand(&self, object: &Object, fun: &Fun, word: u32, span: u32) -> Result<(), Halt>
-        requires { IsSeen self.now fun.now }
-        ensures { Replies fun.now self.now self.now result (λ s. demand object.now s word span) }
+        requires { RepresentsSome self.now fun.now }
+        ensures { StoreExecutes InPlace fun.now self.now self.now result (λ s. demand object.now s word span) }
     {
         let n = self.read_word(fun, word)?;
         if numbers::is_zero(n) {

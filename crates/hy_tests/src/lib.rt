@@ -9,6 +9,8 @@ mod base;
 #[cfg(test)]
 mod frames;
 #[cfg(test)]
+mod integers;
+#[cfg(test)]
 mod machine;
 #[cfg(test)]
 mod object;

@@ -28,7 +28,7 @@ const FILES: &str = "
 48 59 4C 4F 01 00 01 00 00 00 01 01 04 16 00 00 00 01 01 01 00 00 18 00 12 00 = object
 ";
 
-// What is behind the magic: the fields of headers, and code.
+// What is after the magic: the fields of headers, and code.
 const HEADERS: &str = "
 01 00 00 = 6
 01 00 80 80 80 80 10 = 6
@@ -381,7 +381,7 @@ fn shown_object(
     }
 }
 
-// Rows, with the bytes before and behind each.
+// Rows, with the bytes before and after each.
 #[derive(Clone, Copy)]
 struct Table {
     before: &'static str,

@@ -76,7 +76,7 @@ fn zeros_and_seven(alloc: Global, zeros: usize, behind: &str) -> Result<PlainSou
 #[test]
 fn a_line_has_at_most_4096_bytes(rt: HostRuntime) -> Result<(), Fail> {
     let alloc = rt.alloc();
-    // Each row has how many zeros stand before a 7, what comes behind it, and three numbers that are read.
+    // Each row has how many zeros stand before a 7, what comes after it, and three numbers that are read.
     let rows = [
         (4095, "", [Some(7), None, None]),
         (4096, "", [None, None, None]),

@@ -1,6 +1,9 @@
 -- Lists inside the tree, as lists: how they are numbered, and how many nodes they have.
 use Rattle.std.proofs.Common.{◌≡◌, ℕ, ◌+◌, List, [], ◌∷◌, refl, ap, ◌∙◌, arith}
-use Rattle.hy_tree.specs.Numbers.{numbered, count_all, number_all, count_type, count_types, number_type, number_types, count_expr, count_exprs, number_expr, number_exprs, count_links, number_links, count_step, count_steps, number_step, number_steps, count_args, number_args, count_choices, number_choices, count_stmt, count_stmts, number_stmt, number_stmts, count_block, number_block, count_branches, number_branches}
+use Rattle.hy_tree.specs.Numbers.{numbered, count_all, number_all, count_type, count_types, number_type, number_types, count_expr, count_exprs, number_expr}
+use Rattle.hy_tree.specs.Numbers.{number_exprs, count_links, number_links, count_step, count_steps, number_step, number_steps, count_args, number_args}
+use Rattle.hy_tree.specs.Numbers.{count_choices, number_choices, count_stmt, count_stmts, number_stmt, number_stmts, count_block, number_block}
+use Rattle.hy_tree.specs.Numbers.{count_branches, number_branches}
 use Rattle.hy_tree.specs.Tree as T
 
 pub numbered_types_are : (n : ℕ) (parts : List T.TypeExp) → number_types n (T.types parts) ≡ T.types (number_all count_type number_type n parts)
@@ -44,7 +47,9 @@ number_link n l = record { operator = l.operator; token = l.token; operand = num
 pub numbered_links_are : (n : ℕ) (parts : List T.Link) → number_links n (T.links parts) ≡ T.links (number_all count_link number_link n parts)
 numbered_links_are n [] = refl
 numbered_links_are n (l ∷ more) =
-    let same : n + 1 + count_expr l.operand ≡ n + count_link l = omega arith in ap (λ k. T.ThenLink l.operator l.token (number_expr (n + 1) l.operand) (numbered n l.at) (number_links k (T.links more))) same ∙ ap (T.ThenLink l.operator l.token (number_expr (n + 1) l.operand) (numbered n l.at)) (numbered_links_are (n + count_link l) more)
+    let same : n + 1 + count_expr l.operand ≡ n + count_link l = omega arith in
+    ap (λ k. T.ThenLink l.operator l.token (number_expr (n + 1) l.operand) (numbered n l.at) (number_links k (T.links more))) same
+    ∙ ap (T.ThenLink l.operator l.token (number_expr (n + 1) l.operand) (numbered n l.at)) (numbered_links_are (n + count_link l) more)
 
 pub counted_links_are : (parts : List T.Link) → count_links (T.links parts) ≡ count_all count_link parts
 counted_links_are [] = refl
@@ -74,7 +79,10 @@ number_choice n c = record { token = c.token; condition = number_expr n c.condit
 pub numbered_choices_are : (n : ℕ) (parts : List T.Choice) → number_choices n (T.choices parts) ≡ T.choices (number_all count_choice number_choice n parts)
 numbered_choices_are n [] = refl
 numbered_choices_are n (c ∷ more) =
-    let same : n + count_expr c.condition + count_expr c.value ≡ n + count_choice c = omega arith in ap (λ k. T.ThenChoice c.token (number_expr n c.condition) (number_expr (n + count_expr c.condition) c.value) (number_choices k (T.choices more))) same ∙ ap (T.ThenChoice c.token (number_expr n c.condition) (number_expr (n + count_expr c.condition) c.value)) (numbered_choices_are (n + count_choice c) more)
+    let same : n + count_expr c.condition + count_expr c.value ≡ n + count_choice c = omega arith in
+    ap (λ k. T.ThenChoice c.token (number_expr n c.condition) (number_expr (n + count_expr c.condition) c.value) (number_choices k (T.choices more)))
+    same ∙ ap (T.ThenChoice c.token (number_expr n c.condition) (number_expr (n + count_expr c.condition) c.value))
+    (numbered_choices_are (n + count_choice c) more)
 
 pub counted_choices_are : (parts : List T.Choice) → count_choices (T.choices parts) ≡ count_all count_choice parts
 counted_choices_are [] = refl
@@ -89,7 +97,10 @@ number_branch n b = record { token = b.token; condition = number_expr n b.condit
 pub numbered_branches_are : (n : ℕ) (parts : List T.Branch) → number_branches n (T.branches parts) ≡ T.branches (number_all count_branch number_branch n parts)
 numbered_branches_are n [] = refl
 numbered_branches_are n (b ∷ more) =
-    let same : n + count_expr b.condition + count_block b.body ≡ n + count_branch b = omega arith in ap (λ k. T.ThenBranch b.token (number_expr n b.condition) (number_block (n + count_expr b.condition) b.body) (number_branches k (T.branches more))) same ∙ ap (T.ThenBranch b.token (number_expr n b.condition) (number_block (n + count_expr b.condition) b.body)) (numbered_branches_are (n + count_branch b) more)
+    let same : n + count_expr b.condition + count_block b.body ≡ n + count_branch b = omega arith in
+    ap (λ k. T.ThenBranch b.token (number_expr n b.condition) (number_block (n + count_expr b.condition) b.body) (number_branches k (T.branches more)))
+    same ∙ ap (T.ThenBranch b.token (number_expr n b.condition) (number_block (n + count_expr b.condition) b.body))
+    (numbered_branches_are (n + count_branch b) more)
 
 pub counted_branches_are : (parts : List T.Branch) → count_branches (T.branches parts) ≡ count_all count_branch parts
 counted_branches_are [] = refl

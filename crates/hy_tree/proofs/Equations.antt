@@ -5,7 +5,9 @@ use Rattle.hy_base.specs.declared.position.Span.{Span}
 use Rattle.hy_tree.specs.declared.expression.Arg.{Arg}
 use Rattle.hy_tree.specs.declared.expression.Choice.{Choice}
 use Rattle.hy_tree.specs.declared.expression.Expr.{Expr}
-use Rattle.hy_tree.specs.declared.expression.ExprKind.TheBlock.{shape-the_row-Expr-0, hidden-the_row-Expr-0, shape-the_row-Expr-3, hidden-the_row-Expr-3, shape-the_row-Link-1, hidden-the_row-Link-1, shape-the_row-Step-2, hidden-the_row-Step-2, shape-the_row-Choice-4, hidden-the_row-Choice-4, shape-the_row-Arg-5, hidden-the_row-Arg-5}
+use Rattle.hy_tree.specs.declared.expression.ExprKind.TheBlock.{shape-the_row-Expr-0, hidden-the_row-Expr-0, shape-the_row-Expr-3, hidden-the_row-Expr-3}
+use Rattle.hy_tree.specs.declared.expression.ExprKind.TheBlock.{shape-the_row-Link-1, hidden-the_row-Link-1, shape-the_row-Step-2, hidden-the_row-Step-2}
+use Rattle.hy_tree.specs.declared.expression.ExprKind.TheBlock.{shape-the_row-Choice-4, hidden-the_row-Choice-4, shape-the_row-Arg-5, hidden-the_row-Arg-5}
 use Rattle.hy_tree.specs.declared.expression.ExprKind.TheVariants as E
 use Rattle.hy_tree.specs.declared.expression.Link.{Link}
 use Rattle.hy_tree.specs.declared.expression.Step.{Step}
@@ -20,9 +22,12 @@ use Rattle.hy_tree.specs.declared.statement.Stmt.{Stmt}
 use Rattle.hy_tree.specs.declared.statement.StmtKind.TheBlock.{shape-the_row-Branch-0, hidden-the_row-Branch-0, shape-the_row-Stmt-1, hidden-the_row-Stmt-1}
 use Rattle.hy_tree.specs.declared.statement.StmtKind.TheVariants as K
 use Rattle.hy_tree.specs.declared.written.TypeExp.{TypeExp}
-use Rattle.hy_tree.specs.declared.written.TypeKind.TheBlock.{shape-the_row-TypeExp-0, hidden-the_row-TypeExp-0, shape-the_row-TypeExp-1, hidden-the_row-TypeExp-1}
+use Rattle.hy_tree.specs.declared.written.TypeKind.TheBlock.{shape-the_row-TypeExp-0, hidden-the_row-TypeExp-0, shape-the_row-TypeExp-1}
+use Rattle.hy_tree.specs.declared.written.TypeKind.TheBlock.{hidden-the_row-TypeExp-1}
 use Rattle.hy_tree.specs.declared.written.TypeKind.TheVariants as Y
-use Rattle.hy_tree.specs.Denotes.{placed, type_kind_of, type_row, type_of, types_of, expr_kind_of, expr_row, expr_of, exprs_of, link_row, links_of, step_kind_of, step_row, step_of, steps_of, arg_row, args_of, choice_row, choices_of, stmt_kind_of, stmt_row, stmt_of, stmts_of, block_of, branch_row, then_branch, branch_of, branches_of, else_of}
+use Rattle.hy_tree.specs.Denotes.{placed, type_kind_of, type_row, type_of, types_of, expr_kind_of, expr_row, expr_of, exprs_of, link_row, links_of}
+use Rattle.hy_tree.specs.Denotes.{step_kind_of, step_row, step_of, steps_of, arg_row, args_of, choice_row, choices_of, stmt_kind_of, stmt_row, stmt_of}
+use Rattle.hy_tree.specs.Denotes.{stmts_of, block_of, branch_row, then_branch, branch_of, branches_of, else_of}
 use Rattle.hy_tree.specs.Tree as T
 
 -- WRITTEN TYPES
@@ -121,7 +126,8 @@ pub array_is : (elements : List Expr) (at : T.At) → expr_kind_of (E.Array elem
 unfolding expr_kind_of
 array_is elements at = ap (λ r. T.Array r at) (expr_row_is elements)
 
-pub if_else_is : (choices : List Choice) (otherwise : Expr) (at : T.At) → expr_kind_of (E.If choices otherwise) at ≡ T.IfElse (choices_of choices) (expr_of otherwise) at
+pub if_else_is : (choices : List Choice) (otherwise : Expr) (at : T.At)
+    → expr_kind_of (E.If choices otherwise) at ≡ T.IfElse (choices_of choices) (expr_of otherwise) at
 unfolding expr_kind_of shape-the_row-Expr-0 hidden-the_row-Expr-0 denote.Hole.Carrier.hidden
 if_else_is choices otherwise at = ap (λ r. T.IfElse r (expr_of otherwise) at) (choice_row_is choices)
 
@@ -152,7 +158,8 @@ unfolding stmt_kind_of shape-the_row-Stmt-1 hidden-the_row-Stmt-1 denote.Hole.Ca
 stmt_row_is [] = refl
 stmt_row_is (stmt ∷ more) = ap (T.ThenStmt (stmt_of stmt)) (stmt_row_is more)
 
-pub made_block_is : (stmts : List Stmt) (span : Span) (node : ℕ) → block_of (roll-Block (record { stmts = stmts; span = span; node = node })) ≡ T.Braces (stmts_of stmts) (placed span node)
+pub made_block_is : (stmts : List Stmt) (span : Span) (node : ℕ)
+    → block_of (roll-Block (record { stmts = stmts; span = span; node = node })) ≡ T.Braces (stmts_of stmts) (placed span node)
 unfolding stmt_kind_of roll-Block denote.Hole.Carrier.roll
 made_block_is stmts span node = ap (λ r. T.Braces r (placed span node)) (stmt_row_is stmts)
 
@@ -160,7 +167,8 @@ pub block_is : (b : Block) → block_of b ≡ T.Braces (stmts_of (out-Block b).s
 unfolding stmt_kind_of roll-Block denote.Hole.Carrier.roll
 block_is b = ap block_of (sym (roll-out-Block b)) ∙ ap (λ r. T.Braces r (placed (out-Block b).span (out-Block b).node)) (stmt_row_is (out-Block b).stmts)
 
-then_branch_is : (branch : Branch) (more : T.Branches) → then_branch branch more ≡ T.ThenBranch (branch_of branch).token (branch_of branch).condition (branch_of branch).body more
+then_branch_is : (branch : Branch) (more : T.Branches)
+    → then_branch branch more ≡ T.ThenBranch (branch_of branch).token (branch_of branch).condition (branch_of branch).body more
 unfolding stmt_kind_of roll-Branch denote.Hole.Carrier.roll
 then_branch_is branch more = ap (λ b. then_branch b more) (sym (roll-out-Branch branch))
 
@@ -169,7 +177,8 @@ unfolding stmt_kind_of shape-the_row-Branch-0 hidden-the_row-Branch-0 denote.Hol
 branch_row_is [] = refl
 branch_row_is (branch ∷ more) = ap (then_branch branch) (branch_row_is more) ∙ then_branch_is branch (branches_of more)
 
-pub binding_is : (introducer : Introducer) (name : Name) (written : Option TypeExp) (value : Expr) (at : T.At) → stmt_kind_of (K.Binding introducer name written value) at ≡ T.Binding introducer name (option_map type_of written) (expr_of value) at
+pub binding_is : (introducer : Introducer) (name : Name) (written : Option TypeExp) (value : Expr) (at : T.At)
+    → stmt_kind_of (K.Binding introducer name written value) at ≡ T.Binding introducer name (option_map type_of written) (expr_of value) at
 unfolding stmt_kind_of
 binding_is introducer name written value at = refl
 
@@ -181,7 +190,8 @@ pub assign_is : (target value : Expr) (at : T.At) → stmt_kind_of (K.Assign tar
 unfolding stmt_kind_of
 assign_is target value at = refl
 
-pub compound_is : (target : Expr) (operator : Arithmetic) (value : Expr) (at : T.At) → stmt_kind_of (K.Compound target operator value) at ≡ T.Compound (expr_of target) operator (expr_of value) at
+pub compound_is : (target : Expr) (operator : Arithmetic) (value : Expr) (at : T.At)
+    → stmt_kind_of (K.Compound target operator value) at ≡ T.Compound (expr_of target) operator (expr_of value) at
 unfolding stmt_kind_of
 compound_is target operator value at = refl
 
@@ -189,12 +199,14 @@ pub evaluate_is : (value : Expr) (at : T.At) → stmt_kind_of (K.Expr value) at 
 unfolding stmt_kind_of
 evaluate_is value at = refl
 
-pub if_is : (branches : List Branch) (otherwise : Option Block) (at : T.At) → stmt_kind_of (K.If branches otherwise) at ≡ T.If (branches_of branches) (else_of otherwise) at
+pub if_is : (branches : List Branch) (otherwise : Option Block) (at : T.At)
+    → stmt_kind_of (K.If branches otherwise) at ≡ T.If (branches_of branches) (else_of otherwise) at
 unfolding stmt_kind_of
 if_is branches None at = ap (λ r. T.If r T.NoElse at) (branch_row_is branches)
 if_is branches (Some block) at = ap (λ r. T.If r (T.Else (block_of block)) at) (branch_row_is branches)
 
-pub while_is : (token : Span) (condition : Expr) (body : Block) (at : T.At) → stmt_kind_of (K.While token condition body) at ≡ T.While token (expr_of condition) (block_of body) at
+pub while_is : (token : Span) (condition : Expr) (body : Block) (at : T.At)
+    → stmt_kind_of (K.While token condition body) at ≡ T.While token (expr_of condition) (block_of body) at
 unfolding stmt_kind_of
 while_is token condition body at = refl
 

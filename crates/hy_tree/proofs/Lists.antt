@@ -1,10 +1,11 @@
--- Loops that number parts that stand one behind the other.
+-- Loops that number parts that stand one after the other.
 use Rattle.std.proofs.Common.{◌≡◌, ℕ, ◌+◌, ◌-◌, ◌^◌, min, ◌≤◌, ◌<◌, List, [], ◌∷◌, ◌++◌, length, get_or, drop, map, refl, ap, sym, ◌∙◌, append_assoc, arith}
 use Rattle.std.proofs.lemmas.List.{drop_all, drop_more, map-append, append-nil}
 use Rattle.hy_tree.specs.Numbers.{count_all, number_all}
 
 -- Some of the first parts are made, those from `index` on are left, and `next` is the number for them.
-pub record HasNumbered {R P : Type 0} (of : R → P) (count : P → ℕ) (number : ℕ → P → P) (before : ℕ) (parts : List R) (index : ℕ) (made : List R) (next : ℕ) : Type 0 where
+pub record HasNumbered {R P : Type 0} (of : R → P) (count : P → ℕ) (number : ℕ → P → P) (before : ℕ) (parts : List R) (index : ℕ) (made : List R)
+    (next : ℕ) : Type 0 where
   pub same : map of made ++ number_all count number next (map of (drop index parts)) ≡ number_all count number before (map of parts)
   pub sum : next + count_all count (map of (drop index parts)) ≡ before + count_all count (map of parts)
 
@@ -42,7 +43,8 @@ module _ {R P : Type 0} (of : R → P) (count : P → ℕ) (number : ℕ → P �
 
   -- the end of a loop, for a list type of the tree
   pub numbers_closed : {L : Type 0} (close : List P → L) (count_list : L → ℕ) (number_list : ℕ → L → L) →
-      ((n : ℕ) (ps : List P) → number_list n (close ps) ≡ close (number_all count number n ps)) → ((ps : List P) → count_list (close ps) ≡ count_all count ps) →
+      ((n : ℕ) (ps : List P) → number_list n (close ps) ≡ close (number_all count number n ps))
+      → ((ps : List P) → count_list (close ps) ≡ count_all count ps) →
       (index next : ℕ) (made : List R) → length parts ≤ index → HasNumbered of count number before parts index made next →
       (close (map of made) ≡ number_list before (close (map of parts))) × (next ≡ before + count_list (close (map of parts)))
   numbers_closed close count_list number_list numbered counted index next made beyond so_far =
@@ -52,7 +54,8 @@ module _ {R P : Type 0} (of : R → P) (count : P → ℕ) (number : ℕ → P �
 module _ {R P : Type 0} (of : R → P) (count : P → ℕ) (before : ℕ) (parts : List R) where
   -- the end of a loop that counts, for a list type of the tree
   pub counts_closed : {L : Type 0} (close : List P → L) (count_list : L → ℕ) → ((ps : List P) → count_list (close ps) ≡ count_all count ps) →
-      (index total : ℕ) → length parts ≤ index → HasCounted of count before parts index total → total ≡ min (before + count_list (close (map of parts))) (2 ^ 32 - 1)
+      (index total : ℕ) → length parts ≤ index → HasCounted of count before parts index total
+      → total ≡ min (before + count_list (close (map of parts))) (2 ^ 32 - 1)
   counts_closed close count_list counted index total beyond so_far =
       let none : count_all count (map of (drop index parts)) ≡ 0 = ap (λ xs. count_all count (map of xs)) (drop_all index parts beyond) in
       let all = counted (map of parts) in

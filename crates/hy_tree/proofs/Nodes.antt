@@ -4,7 +4,13 @@ use Rattle.std.proofs.lemmas.List.{length-append}
 use Rattle.std.specs.List.{flat_map}
 use Rattle.hy_tree.specs.declared.declaration.TypeParam.{TypeParam}
 use Rattle.hy_tree.specs.declared.name.NameUse.{NameUse}
-use Rattle.hy_tree.specs.Numbers.{nodes_type, nodes_types, nodes_expr, nodes_exprs, nodes_links, nodes_step, nodes_steps, nodes_args, nodes_choices, nodes_stmt, nodes_stmts, nodes_block, nodes_branches, nodes_otherwise, nodes_optional, nodes_use, nodes_generic, nodes_param, nodes_variant, nodes_callable, nodes_member_kind, nodes_member, nodes_product, nodes_trait, nodes_conform, nodes_decl_kind, nodes_decl, nodes_program, count_type, count_types, count_expr, count_exprs, count_links, count_step, count_steps, count_args, count_choices, count_stmt, count_stmts, count_block, count_branches, count_otherwise, count_optional, count_all, count_use, count_generic, count_param, count_variant, count_callable, count_member_kind, count_member, count_product, count_trait, count_conform, count_decl_kind, count_decl, count_program}
+use Rattle.hy_tree.specs.Numbers.{nodes_type, nodes_types, nodes_expr, nodes_exprs, nodes_links, nodes_step, nodes_steps, nodes_args, nodes_choices}
+use Rattle.hy_tree.specs.Numbers.{nodes_stmt, nodes_stmts, nodes_block, nodes_branches, nodes_otherwise, nodes_optional, nodes_use, nodes_generic}
+use Rattle.hy_tree.specs.Numbers.{nodes_param, nodes_variant, nodes_callable, nodes_member_kind, nodes_member, nodes_product, nodes_trait, nodes_conform}
+use Rattle.hy_tree.specs.Numbers.{nodes_decl_kind, nodes_decl, nodes_program, count_type, count_types, count_expr, count_exprs, count_links, count_step}
+use Rattle.hy_tree.specs.Numbers.{count_steps, count_args, count_choices, count_stmt, count_stmts, count_block, count_branches, count_otherwise}
+use Rattle.hy_tree.specs.Numbers.{count_optional, count_all, count_use, count_generic, count_param, count_variant, count_callable, count_member_kind}
+use Rattle.hy_tree.specs.Numbers.{count_member, count_product, count_trait, count_conform, count_decl_kind, count_decl, count_program}
 use Rattle.hy_tree.specs.Tree as T
 
 -- a list has so many numbers
@@ -20,15 +26,17 @@ single node = record { is = refl }
 both : {xs ys : List ℕ} {a b : ℕ} → Has xs a → Has ys b → Has (xs ++ ys) (a + b)
 both {xs} {ys} first second = record { is = length-append xs ys ∙ (λ i. first.is i + second.is i) }
 
--- a node, and those behind it
+-- a node, and those after it
 behind : (node : ℕ) {xs : List ℕ} {a : ℕ} {k : ℕ} → Has xs a → k ≡ 1 + a → Has (node ∷ xs) k
 behind node {xs} rest count = (let h = rest.is in record { is = omega (arith, h, count) })
 
-optional_counts : {A : Type 0} (nodes : A → List ℕ) (count : A → ℕ) → ((part : A) → Has (nodes part) (count part)) → (part : Option A) → Has (nodes_optional nodes part) (count_optional count part)
+optional_counts : {A : Type 0} (nodes : A → List ℕ) (count : A → ℕ) → ((part : A) → Has (nodes part) (count part)) → (part : Option A)
+    → Has (nodes_optional nodes part) (count_optional count part)
 optional_counts nodes count each None = none
 optional_counts nodes count each (Some part) = each part
 
-all_counts : {A : Type 0} (nodes : A → List ℕ) (count : A → ℕ) → ((part : A) → Has (nodes part) (count part)) → (parts : List A) → Has (flat_map nodes parts) (count_all count parts)
+all_counts : {A : Type 0} (nodes : A → List ℕ) (count : A → ℕ) → ((part : A) → Has (nodes part) (count part)) → (parts : List A)
+    → Has (flat_map nodes parts) (count_all count parts)
 all_counts nodes count each [] = none
 all_counts nodes count each (part ∷ rest) = both (each part) (all_counts nodes count each rest)
 
@@ -86,7 +94,8 @@ mutual
 
 mutual
   stmt_counts : (part : T.Stmt) → Has (nodes_stmt part) (count_stmt part)
-  stmt_counts (T.Binding introducer name written value at) = behind at.node (both (optional_counts nodes_type count_type type_counts written) (expr_counts value)) (omega arith)
+  stmt_counts (T.Binding introducer name written value at) =
+      behind at.node (both (optional_counts nodes_type count_type type_counts written) (expr_counts value)) (omega arith)
   stmt_counts (T.Declare name written at) = behind at.node (type_counts written) (omega arith)
   stmt_counts (T.Assign target value at) = behind at.node (both (expr_counts target) (expr_counts value)) (omega arith)
   stmt_counts (T.Compound target operator value at) = behind at.node (both (expr_counts target) (expr_counts value)) (omega arith)
@@ -141,14 +150,17 @@ member_counts : (part : T.Member) → Has (nodes_member part) (count_member part
 member_counts part = behind part.at.node (member_kind_counts part.kind) (omega arith)
 
 product_counts : (part : T.Product) → Has (nodes_product part) (count_product part)
-product_counts part = behind part.at.node (both (all_counts nodes_use count_use use_counts part.traits) (all_counts nodes_member count_member member_counts part.members)) (omega arith)
+product_counts part =
+    behind part.at.node (both (all_counts nodes_use count_use use_counts part.traits) (all_counts nodes_member count_member member_counts part.members))
+    (omega arith)
 
 trait_counts : (part : T.TraitDef) → Has (nodes_trait part) (count_trait part)
 trait_counts part = behind part.at.node (all_counts nodes_member count_member member_counts part.members) (omega arith)
 
 conform_counts : (part : T.Conform) → Has (nodes_conform part) (count_conform part)
 conform_counts part =
-    behind part.at.node (both (both (use_counts part.target) (all_counts nodes_use count_use use_counts part.traits)) (all_counts nodes_member count_member member_counts part.members)) (omega arith)
+    behind part.at.node (both (both (use_counts part.target) (all_counts nodes_use count_use use_counts part.traits))
+    (all_counts nodes_member count_member member_counts part.members)) (omega arith)
 
 decl_kind_counts : (part : T.DeclKind) → Has (nodes_decl_kind part) (count_decl_kind part)
 decl_kind_counts (T.DeclCallable part) = callable_counts part
@@ -160,4 +172,6 @@ decl_counts : (part : T.Decl) → Has (nodes_decl part) (count_decl part)
 decl_counts part = behind part.at.node (decl_kind_counts part.kind) (omega arith)
 
 pub program_counts : (program : T.Program) → length (nodes_program program) ≡ count_program program
-program_counts program = (let h : Has (nodes_program program) (count_program program) = behind program.at.node (all_counts nodes_decl count_decl decl_counts program.decls) (omega arith) in h.is)
+program_counts program =
+    (let h : Has (nodes_program program) (count_program program) =
+    behind program.at.node (all_counts nodes_decl count_decl decl_counts program.decls) (omega arith) in h.is)

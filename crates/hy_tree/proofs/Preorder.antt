@@ -3,11 +3,22 @@ use Rattle.std.proofs.Common.{◌≡◌, ℕ, zero, suc, ◌+◌, List, [], ◌�
 use Rattle.std.specs.List.{flat_map, range_with_len}
 use Rattle.hy_tree.specs.declared.declaration.TypeParam.{TypeParam}
 use Rattle.hy_tree.specs.declared.name.NameUse.{NameUse}
-use Rattle.hy_tree.specs.Numbers.{nodes_type, nodes_types, nodes_expr, nodes_exprs, nodes_links, nodes_step, nodes_steps, nodes_args, nodes_choices, nodes_stmt, nodes_stmts, nodes_block, nodes_branches, nodes_otherwise, nodes_optional, nodes_use, nodes_generic, nodes_param, nodes_variant, nodes_callable, nodes_member_kind, nodes_member, nodes_product, nodes_trait, nodes_conform, nodes_decl_kind, nodes_decl, nodes_program, count_type, count_types, count_expr, count_exprs, count_links, count_step, count_steps, count_args, count_choices, count_stmt, count_stmts, count_block, count_branches, count_otherwise, count_optional, count_all, count_use, count_generic, count_param, count_variant, count_callable, count_member_kind, count_member, count_product, count_trait, count_conform, count_decl_kind, count_decl, count_program, number_type, number_types, number_expr, number_exprs, number_links, number_step, number_steps, number_args, number_choices, number_stmt, number_stmts, number_block, number_branches, number_otherwise, number_optional, number_all, number_use, number_generic, number_param, number_variant, number_callable, number_member_kind, number_member, number_product, number_trait, number_conform, number_decl_kind, number_decl, number_program}
+use Rattle.hy_tree.specs.Numbers.{nodes_type, nodes_types, nodes_expr, nodes_exprs, nodes_links, nodes_step, nodes_steps, nodes_args, nodes_choices}
+use Rattle.hy_tree.specs.Numbers.{nodes_stmt, nodes_stmts, nodes_block, nodes_branches, nodes_otherwise, nodes_optional, nodes_use, nodes_generic}
+use Rattle.hy_tree.specs.Numbers.{nodes_param, nodes_variant, nodes_callable, nodes_member_kind, nodes_member, nodes_product, nodes_trait, nodes_conform}
+use Rattle.hy_tree.specs.Numbers.{nodes_decl_kind, nodes_decl, nodes_program, count_type, count_types, count_expr, count_exprs, count_links, count_step}
+use Rattle.hy_tree.specs.Numbers.{count_steps, count_args, count_choices, count_stmt, count_stmts, count_block, count_branches, count_otherwise}
+use Rattle.hy_tree.specs.Numbers.{count_optional, count_all, count_use, count_generic, count_param, count_variant, count_callable, count_member_kind}
+use Rattle.hy_tree.specs.Numbers.{count_member, count_product, count_trait, count_conform, count_decl_kind, count_decl, count_program, number_type}
+use Rattle.hy_tree.specs.Numbers.{number_types, number_expr, number_exprs, number_links, number_step, number_steps, number_args, number_choices}
+use Rattle.hy_tree.specs.Numbers.{number_stmt, number_stmts, number_block, number_branches, number_otherwise, number_optional, number_all, number_use}
+use Rattle.hy_tree.specs.Numbers.{number_generic, number_param, number_variant, number_callable, number_member_kind, number_member, number_product}
+use Rattle.hy_tree.specs.Numbers.{number_trait, number_conform, number_decl_kind, number_decl, number_program}
 use Rattle.hy_tree.specs.Tree as T
 
 range_joins : (n a b : ℕ) → range_with_len n a ++ range_with_len (n + a) b ≡ range_with_len n (a + b)
-range_joins n zero b = (let e : n + 0 ≡ n = omega arith in let f : 0 + b ≡ b = omega arith in (λ i. range_with_len (e i) b) ∙ (λ i. range_with_len n ((sym f) i)))
+range_joins n zero b = (let e : n + 0 ≡ n = omega arith in let f : 0 + b ≡ b = omega arith in (λ i. range_with_len (e i) b)
+    ∙ (λ i. range_with_len n ((sym f) i)))
 range_joins n (suc a) b =
     let e : n + suc a ≡ n + 1 + a = omega arith in
     let f : suc a + b ≡ suc (a + b) = omega arith in
@@ -16,7 +27,8 @@ range_joins n (suc a) b =
 join : {xs ys : List ℕ} (n a b : ℕ) → xs ≡ range_with_len n a → ys ≡ range_with_len (n + a) b → xs ++ ys ≡ range_with_len n (a + b)
 join n a b first second = (λ i. first i ++ second i) ∙ range_joins n a b
 
-join3 : {xs ys zs : List ℕ} (n a b c : ℕ) → xs ≡ range_with_len n a → ys ≡ range_with_len (n + a) b → zs ≡ range_with_len (n + a + b) c → xs ++ ys ++ zs ≡ range_with_len n (a + b + c)
+join3 : {xs ys zs : List ℕ} (n a b c : ℕ) → xs ≡ range_with_len n a → ys ≡ range_with_len (n + a) b → zs ≡ range_with_len (n + a + b) c
+    → xs ++ ys ++ zs ≡ range_with_len n (a + b + c)
 join3 n a b c first second third =
     let e : n + a + b ≡ n + (a + b) = omega arith in
     join n (a + b) c (join n a b first second) (third ∙ (λ i. range_with_len (e i) c))
@@ -24,15 +36,18 @@ join3 n a b c first second third =
 head : {xs : List ℕ} (n a k : ℕ) → xs ≡ range_with_len (n + 1) a → k ≡ suc a → n ∷ xs ≡ range_with_len n k
 head n a k rest count = ap (λ xs. n ∷ xs) rest ∙ (λ i. range_with_len n ((sym count) i))
 
-optional_numbers : {A : Type 0} (nodes : A → List ℕ) (count : A → ℕ) (number : ℕ → A → A) → ((n : ℕ) (part : A) → nodes (number n part) ≡ range_with_len n (count part)) →
+optional_numbers : {A : Type 0} (nodes : A → List ℕ) (count : A → ℕ) (number : ℕ → A → A)
+    → ((n : ℕ) (part : A) → nodes (number n part) ≡ range_with_len n (count part)) →
     (n : ℕ) (part : Option A) → nodes_optional nodes (number_optional number n part) ≡ range_with_len n (count_optional count part)
 optional_numbers nodes count number each n None = refl
 optional_numbers nodes count number each n (Some part) = each n part
 
-all_numbers : {A : Type 0} (nodes : A → List ℕ) (count : A → ℕ) (number : ℕ → A → A) → ((n : ℕ) (part : A) → nodes (number n part) ≡ range_with_len n (count part)) →
+all_numbers : {A : Type 0} (nodes : A → List ℕ) (count : A → ℕ) (number : ℕ → A → A)
+    → ((n : ℕ) (part : A) → nodes (number n part) ≡ range_with_len n (count part)) →
     (n : ℕ) (parts : List A) → flat_map nodes (number_all count number n parts) ≡ range_with_len n (count_all count parts)
 all_numbers nodes count number each n [] = refl
-all_numbers nodes count number each n (part ∷ more) = join n (count part) (count_all count more) (each n part) (all_numbers nodes count number each (n + count part) more)
+all_numbers nodes count number each n (part ∷ more) =
+    join n (count part) (count_all count more) (each n part) (all_numbers nodes count number each (n + count part) more)
 
 mutual
   type_numbers : (n : ℕ) (part : T.TypeExp) → nodes_type (number_type n part) ≡ range_with_len n (count_type part)
@@ -47,10 +62,15 @@ mutual
 
 mutual
   expr_numbers : (n : ℕ) (part : T.Expr) → nodes_expr (number_expr n part) ≡ range_with_len n (count_expr part)
-  expr_numbers n (T.Chain first links at) = head n (count_expr first + count_links links) (1 + count_expr first + count_links links) (join (n + 1) (count_expr first) (count_links links) (expr_numbers (n + 1) first) (links_numbers (n + 1 + count_expr first) links)) (omega arith)
+  expr_numbers n (T.Chain first links at) =
+      head n (count_expr first + count_links links) (1 + count_expr first + count_links links)
+      (join (n + 1) (count_expr first) (count_links links) (expr_numbers (n + 1) first) (links_numbers (n + 1 + count_expr first) links)) (omega arith)
   expr_numbers n (T.Unary operator operand at) = head n (count_expr operand) (1 + count_expr operand) (expr_numbers (n + 1) operand) (omega arith)
   expr_numbers n (T.Marked operand at) = head n (count_expr operand) (1 + count_expr operand) (expr_numbers (n + 1) operand) (omega arith)
-  expr_numbers n (T.Postfix primary steps at) = head n (count_expr primary + count_steps steps) (1 + count_expr primary + count_steps steps) (join (n + 1) (count_expr primary) (count_steps steps) (expr_numbers (n + 1) primary) (steps_numbers (n + 1 + count_expr primary) steps)) (omega arith)
+  expr_numbers n (T.Postfix primary steps at) =
+      head n (count_expr primary + count_steps steps) (1 + count_expr primary + count_steps steps)
+      (join (n + 1) (count_expr primary) (count_steps steps) (expr_numbers (n + 1) primary) (steps_numbers (n + 1 + count_expr primary) steps))
+      (omega arith)
   expr_numbers n (T.Number number at) = refl
   expr_numbers n (T.Truth truth at) = refl
   expr_numbers n (T.Named name at) = refl
@@ -58,7 +78,10 @@ mutual
   expr_numbers n (T.EmptyArray element at) = head n (count_type element) (1 + count_type element) (type_numbers (n + 1) element) (omega arith)
   expr_numbers n (T.Tuple parts at) = head n (count_exprs parts) (1 + count_exprs parts) (exprs_numbers (n + 1) parts) (omega arith)
   expr_numbers n (T.Array elements at) = head n (count_exprs elements) (1 + count_exprs elements) (exprs_numbers (n + 1) elements) (omega arith)
-  expr_numbers n (T.IfElse choices otherwise at) = head n (count_choices choices + count_expr otherwise) (1 + count_choices choices + count_expr otherwise) (join (n + 1) (count_choices choices) (count_expr otherwise) (choices_numbers (n + 1) choices) (expr_numbers (n + 1 + count_choices choices) otherwise)) (omega arith)
+  expr_numbers n (T.IfElse choices otherwise at) =
+      head n (count_choices choices + count_expr otherwise) (1 + count_choices choices + count_expr otherwise)
+      (join (n + 1) (count_choices choices) (count_expr otherwise) (choices_numbers (n + 1) choices)
+      (expr_numbers (n + 1 + count_choices choices) otherwise)) (omega arith)
 
   exprs_numbers : (n : ℕ) (parts : T.Exprs) → nodes_exprs (number_exprs n parts) ≡ range_with_len n (count_exprs parts)
   exprs_numbers n T.NoExpr = refl
@@ -66,7 +89,9 @@ mutual
 
   links_numbers : (n : ℕ) (parts : T.Links) → nodes_links (number_links n parts) ≡ range_with_len n (count_links parts)
   links_numbers n T.NoLink = refl
-  links_numbers n (T.ThenLink operator token operand at more) = head n (count_expr operand + count_links more) (1 + count_expr operand + count_links more) (join (n + 1) (count_expr operand) (count_links more) (expr_numbers (n + 1) operand) (links_numbers (n + 1 + count_expr operand) more)) (omega arith)
+  links_numbers n (T.ThenLink operator token operand at more) =
+      head n (count_expr operand + count_links more) (1 + count_expr operand + count_links more)
+      (join (n + 1) (count_expr operand) (count_links more) (expr_numbers (n + 1) operand) (links_numbers (n + 1 + count_expr operand) more)) (omega arith)
 
   step_numbers : (n : ℕ) (part : T.Step) → nodes_step (number_step n part) ≡ range_with_len n (count_step part)
   step_numbers n (T.MemberStep name at) = refl
@@ -84,18 +109,35 @@ mutual
 
   choices_numbers : (n : ℕ) (parts : T.Choices) → nodes_choices (number_choices n parts) ≡ range_with_len n (count_choices parts)
   choices_numbers n T.NoChoice = refl
-  choices_numbers n (T.ThenChoice token condition value more) = (join3 n (count_expr condition) (count_expr value) (count_choices more) (expr_numbers n condition) (expr_numbers (n + count_expr condition) value) (choices_numbers (n + count_expr condition + count_expr value) more))
+  choices_numbers n (T.ThenChoice token condition value more) =
+      (join3 n (count_expr condition) (count_expr value) (count_choices more) (expr_numbers n condition) (expr_numbers (n + count_expr condition) value)
+      (choices_numbers (n + count_expr condition + count_expr value) more))
 
 mutual
   stmt_numbers : (n : ℕ) (part : T.Stmt) → nodes_stmt (number_stmt n part) ≡ range_with_len n (count_stmt part)
-  stmt_numbers n (T.Binding introducer name written value at) = head n (count_optional count_type written + count_expr value) (1 + count_optional count_type written + count_expr value) (join (n + 1) (count_optional count_type written) (count_expr value) (optional_numbers nodes_type count_type number_type type_numbers (n + 1) written) (expr_numbers (n + 1 + count_optional count_type written) value)) (omega arith)
+  stmt_numbers n (T.Binding introducer name written value at) =
+      head n (count_optional count_type written + count_expr value) (1 + count_optional count_type written + count_expr value)
+      (join (n + 1) (count_optional count_type written) (count_expr value) (optional_numbers nodes_type count_type number_type type_numbers (n + 1) written)
+      (expr_numbers (n + 1 + count_optional count_type written) value)) (omega arith)
   stmt_numbers n (T.Declare name written at) = head n (count_type written) (1 + count_type written) (type_numbers (n + 1) written) (omega arith)
-  stmt_numbers n (T.Assign target value at) = head n (count_expr target + count_expr value) (1 + count_expr target + count_expr value) (join (n + 1) (count_expr target) (count_expr value) (expr_numbers (n + 1) target) (expr_numbers (n + 1 + count_expr target) value)) (omega arith)
-  stmt_numbers n (T.Compound target operator value at) = head n (count_expr target + count_expr value) (1 + count_expr target + count_expr value) (join (n + 1) (count_expr target) (count_expr value) (expr_numbers (n + 1) target) (expr_numbers (n + 1 + count_expr target) value)) (omega arith)
+  stmt_numbers n (T.Assign target value at) =
+      head n (count_expr target + count_expr value) (1 + count_expr target + count_expr value)
+      (join (n + 1) (count_expr target) (count_expr value) (expr_numbers (n + 1) target) (expr_numbers (n + 1 + count_expr target) value)) (omega arith)
+  stmt_numbers n (T.Compound target operator value at) =
+      head n (count_expr target + count_expr value) (1 + count_expr target + count_expr value)
+      (join (n + 1) (count_expr target) (count_expr value) (expr_numbers (n + 1) target) (expr_numbers (n + 1 + count_expr target) value)) (omega arith)
   stmt_numbers n (T.Evaluate value at) = head n (count_expr value) (1 + count_expr value) (expr_numbers (n + 1) value) (omega arith)
-  stmt_numbers n (T.If branches otherwise at) = head n (count_branches branches + count_otherwise otherwise) (1 + count_branches branches + count_otherwise otherwise) (join (n + 1) (count_branches branches) (count_otherwise otherwise) (branches_numbers (n + 1) branches) (otherwise_numbers (n + 1 + count_branches branches) otherwise)) (omega arith)
-  stmt_numbers n (T.While token condition body at) = head n (count_expr condition + count_block body) (1 + count_expr condition + count_block body) (join (n + 1) (count_expr condition) (count_block body) (expr_numbers (n + 1) condition) (block_numbers (n + 1 + count_expr condition) body)) (omega arith)
-  stmt_numbers n (T.Return token value at) = head n (count_optional count_expr value) (1 + count_optional count_expr value) (optional_numbers nodes_expr count_expr number_expr expr_numbers (n + 1) value) (omega arith)
+  stmt_numbers n (T.If branches otherwise at) =
+      head n (count_branches branches + count_otherwise otherwise) (1 + count_branches branches + count_otherwise otherwise)
+      (join (n + 1) (count_branches branches) (count_otherwise otherwise) (branches_numbers (n + 1) branches)
+      (otherwise_numbers (n + 1 + count_branches branches) otherwise)) (omega arith)
+  stmt_numbers n (T.While token condition body at) =
+      head n (count_expr condition + count_block body) (1 + count_expr condition + count_block body)
+      (join (n + 1) (count_expr condition) (count_block body) (expr_numbers (n + 1) condition) (block_numbers (n + 1 + count_expr condition) body))
+      (omega arith)
+  stmt_numbers n (T.Return token value at) =
+      head n (count_optional count_expr value) (1 + count_optional count_expr value)
+      (optional_numbers nodes_expr count_expr number_expr expr_numbers (n + 1) value) (omega arith)
   stmt_numbers n (T.Break at) = refl
   stmt_numbers n (T.Continue at) = refl
   stmt_numbers n (T.Yield token value at) = head n (count_expr value) (1 + count_expr value) (expr_numbers (n + 1) value) (omega arith)
@@ -109,7 +151,9 @@ mutual
 
   branches_numbers : (n : ℕ) (parts : T.Branches) → nodes_branches (number_branches n parts) ≡ range_with_len n (count_branches parts)
   branches_numbers n T.NoBranch = refl
-  branches_numbers n (T.ThenBranch token condition body more) = (join3 n (count_expr condition) (count_block body) (count_branches more) (expr_numbers n condition) (block_numbers (n + count_expr condition) body) (branches_numbers (n + count_expr condition + count_block body) more))
+  branches_numbers n (T.ThenBranch token condition body more) =
+      (join3 n (count_expr condition) (count_block body) (count_branches more) (expr_numbers n condition) (block_numbers (n + count_expr condition) body)
+      (branches_numbers (n + count_expr condition + count_block body) more))
 
   otherwise_numbers : (n : ℕ) (part : T.Otherwise) → nodes_otherwise (number_otherwise n part) ≡ range_with_len n (count_otherwise part)
   otherwise_numbers n T.NoElse = refl
@@ -161,7 +205,8 @@ product_numbers n part =
 
 trait_numbers : (n : ℕ) (part : T.TraitDef) → nodes_trait (number_trait n part) ≡ range_with_len n (count_trait part)
 trait_numbers n part =
-    head n (count_all count_member part.members) (count_trait part) (all_numbers nodes_member count_member number_member member_numbers (n + 1) part.members) (omega arith)
+    head n (count_all count_member part.members) (count_trait part)
+    (all_numbers nodes_member count_member number_member member_numbers (n + 1) part.members) (omega arith)
 
 conform_numbers : (n : ℕ) (part : T.Conform) → nodes_conform (number_conform n part) ≡ range_with_len n (count_conform part)
 conform_numbers n part =
@@ -182,4 +227,6 @@ decl_numbers : (n : ℕ) (part : T.Decl) → nodes_decl (number_decl n part) ≡
 decl_numbers n part = head n (count_decl_kind part.kind) (count_decl part) (decl_kind_numbers (n + 1) part.kind) (omega arith)
 
 pub program_numbers : (program : T.Program) → nodes_program (number_program program) ≡ range_with_len 0 (count_program program)
-program_numbers program = head 0 (count_all count_decl program.decls) (count_program program) (all_numbers nodes_decl count_decl number_decl decl_numbers 1 program.decls) (omega arith)
+program_numbers program =
+    head 0 (count_all count_decl program.decls) (count_program program) (all_numbers nodes_decl count_decl number_decl decl_numbers 1 program.decls)
+    (omega arith)

@@ -20,7 +20,8 @@ use Rattle.hy_tree.specs.declared.expression.Arg.{Arg}
 use Rattle.hy_tree.specs.declared.expression.Choice.{Choice}
 use Rattle.hy_tree.specs.declared.expression.Expr.{Expr}
 use Rattle.hy_tree.specs.declared.expression.ExprKind as E
-use Rattle.hy_tree.specs.declared.expression.ExprKind.{ExprKind, Row_of-Expr, end_of-Expr, more_of-Expr, Row_of-Link, end_of-Link, more_of-Link, Row_of-Step, end_of-Step, more_of-Step, Row_of-Choice, end_of-Choice, more_of-Choice}
+use Rattle.hy_tree.specs.declared.expression.ExprKind.{ExprKind, Row_of-Expr, end_of-Expr, more_of-Expr, Row_of-Link, end_of-Link, more_of-Link}
+use Rattle.hy_tree.specs.declared.expression.ExprKind.{Row_of-Step, end_of-Step, more_of-Step, Row_of-Choice, end_of-Choice, more_of-Choice}
 use Rattle.hy_tree.specs.declared.expression.Link.{Link}
 use Rattle.hy_tree.specs.declared.expression.Step.{Step}
 use Rattle.hy_tree.specs.declared.expression.StepKind as S

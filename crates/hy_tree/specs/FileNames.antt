@@ -8,7 +8,8 @@ use Rattle.hy_tree.specs.declared.declaration.CallableKind.TheVariants as kind
 use Rattle.hy_tree.specs.declared.meant.Meant.{Meant}
 use Rattle.hy_tree.specs.declared.meant.Meant.TheVariants as meant
 use Rattle.hy_tree.specs.declared.name.Name.{Name}
-use Rattle.hy_tree.specs.declared.predeclared.TheConstants.{PRINT, READ, PRECONDITION, INT, BOOL, COPYABLE, MOVABLE, DEINITIALIZABLE, COUNT, APPEND, REMOVE_LAST, SWAP_AT, COPY}
+use Rattle.hy_tree.specs.declared.predeclared.TheConstants.{PRINT, READ, PRECONDITION, INT, BOOL, COPYABLE, MOVABLE, DEINITIALIZABLE, COUNT, APPEND}
+use Rattle.hy_tree.specs.declared.predeclared.TheConstants.{REMOVE_LAST, SWAP_AT, COPY, INT8, INT16, INT32, UINT8, UINT16, UINT32, UINT64}
 
 -- the members of a type: fields by name, the base names of methods and subscripts, and these by full name
 pub record Family : Type 0 where
@@ -32,19 +33,39 @@ pub record File : Type 0 where
   -- the members of each type, those of its conformances among them
   pub families : List ℕ → Family
 
+-- the predeclared types
+abbrev pub is_integer : List ℕ → Bool
+is_integer name =
+    bytes_eq name (codes "Int8") || (bytes_eq name (codes "Int16") || (bytes_eq name (codes "Int32") || (bytes_eq name (codes "UInt8")
+    || (bytes_eq name (codes "UInt16") || (bytes_eq name (codes "UInt32") || (bytes_eq name (codes "UInt64") || bytes_eq name (codes "Int")))))))
+
+abbrev pub with_integers : Names → Names
+with_integers names =
+    with_name (codes "Int") (meant.Built INT) (with_name (codes "UInt64") (meant.Built UINT64)
+    (with_name (codes "UInt32") (meant.Built UINT32) (with_name (codes "UInt16") (meant.Built UINT16)
+    (with_name (codes "UInt8") (meant.Built UINT8) (with_name (codes "Int32") (meant.Built INT32)
+    (with_name (codes "Int16") (meant.Built INT16) (with_name (codes "Int8") (meant.Built INT8) names)))))))
+
 -- names that no declaration may have
 abbrev pub is_reserved : List ℕ → Bool
 is_reserved name =
-    bytes_eq name (codes "print") || (bytes_eq name (codes "read") || (bytes_eq name (codes "precondition") || (bytes_eq name (codes "Int") || (bytes_eq name (codes "Bool") || (bytes_eq name (codes "Copyable")
+    bytes_eq name (codes "print") ||
+    (bytes_eq name (codes "read") ||
+    (bytes_eq name (codes "precondition") || (is_integer name || (bytes_eq name (codes "Bool") || (bytes_eq name (codes "Copyable")
     || (bytes_eq name (codes "Movable") || bytes_eq name (codes "Deinitializable")))))))
 
 abbrev pub predeclared : File
 predeclared = record {
-  types = with_name (codes "Bool") (meant.Built BOOL) (with_name (codes "Int") (meant.Built INT) no_names);
-  traits = with_name (codes "Deinitializable") (meant.Built DEINITIALIZABLE) (with_name (codes "Movable") (meant.Built MOVABLE) (with_name (codes "Copyable") (meant.Built COPYABLE) no_names));
-  callables = with_name (codes "precondition(_:)") (meant.Built PRECONDITION) (with_name (codes "read()") (meant.Built READ) (with_name (codes "print(_:)") (meant.Built PRINT) no_names));
-  bases = with_name (codes "precondition") (meant.Built PRECONDITION) (with_name (codes "read") (meant.Built READ) (with_name (codes "print") (meant.Built PRINT) no_names));
-  members = with_name (codes "copy") (meant.Built COPY) (with_name (codes "swap_at") (meant.Built SWAP_AT) (with_name (codes "remove_last") (meant.Built REMOVE_LAST) (with_name (codes "append") (meant.Built APPEND) (with_name (codes "count") (meant.Built COUNT) no_names))));
+  types = with_name (codes "Bool") (meant.Built BOOL) (with_integers no_names);
+  traits = with_name (codes "Deinitializable") (meant.Built DEINITIALIZABLE)
+      (with_name (codes "Movable") (meant.Built MOVABLE) (with_name (codes "Copyable") (meant.Built COPYABLE) no_names));
+  callables = with_name (codes "precondition(_:)") (meant.Built PRECONDITION)
+      (with_name (codes "read()") (meant.Built READ) (with_name (codes "print(_:)") (meant.Built PRINT) no_names));
+  bases = with_name (codes "precondition") (meant.Built PRECONDITION)
+      (with_name (codes "read") (meant.Built READ) (with_name (codes "print") (meant.Built PRINT) no_names));
+  members = with_name (codes "copy") (meant.Built COPY) (with_name (codes "swap_at") (meant.Built SWAP_AT)
+      (with_name (codes "remove_last") (meant.Built REMOVE_LAST)
+      (with_name (codes "append") (meant.Built APPEND) (with_name (codes "count") (meant.Built COUNT) no_names))));
   families = λ owner. no_family;
 }
 
@@ -74,7 +95,11 @@ asked None names = names
 abbrev pub with_member : Family → ℕ → T.MemberKind → Family
 with_member family node (T.Field name written) = record family { fields = with_name name.text (meant.SelfField node) family.fields }
 with_member family node T.MemberwiseInit = family
-with_member family node (T.MemberCallable c) = record family { bases = with_name (base_text c.name) meant.Nothing family.bases; callables = with_name (member_name c) meant.Nothing family.callables }
+with_member family node (T.MemberCallable c) = record family {
+  bases = with_name (base_text c.name) meant.Nothing family.bases;
+  callables =
+      with_name (member_name c) meant.Nothing family.callables;
+}
 
 abbrev pub with_members : Family → List T.Member → Family
 with_members family [] = family

@@ -1,6 +1,7 @@
 -- What each name of a source stands for, and where the rules N1 to N5 are broken: all that there is to find, in the order of a
 -- walk over the tree.
-use Rattle.std.specs.Prelude.{ℕ, List, [], ◌∷◌, ◌++◌, Option, Some, None, Bool, true, false, ◌||◌, ◌&&◌, not, codes, Contains, slice_set, replicate, min, ◌+◌, ◌-◌, ◌^◌}
+use Rattle.std.specs.Prelude.{ℕ, List, [], ◌∷◌, ◌++◌, Option, Some, None, Bool, true, false, ◌||◌, ◌&&◌, not, codes, Contains, slice_set, replicate, min}
+use Rattle.std.specs.Prelude.{◌+◌, ◌-◌, ◌^◌}
 use Rattle.std.specs.Option.{unwrap_or}
 use Rattle.std.specs.Str.{bytes_eq}
 use Rattle.hy_base.specs.First.{Refusal}
@@ -41,7 +42,7 @@ abbrev pub known : Rule → Span → ℕ → Option Meant → List Finding
 known rule span node (Some meaning) = Stands node meaning ∷ []
 known rule span node None = Broken rule span ∷ []
 
--- a name is declared behind these
+-- a name is declared after these
 abbrev pub declares : Names → Name → List Finding
 declares before name = when (is_there (before name.text) || is_reserved name.text) (Broken N2 name.span)
 
@@ -83,7 +84,7 @@ find_traits file (name ∷ more) = find_trait file name ++ find_traits file more
 
 -- EXPRESSIONS
 
--- how a name is used: alone, or with arguments in parentheses or in brackets right behind it
+-- how a name is used: alone, or with arguments in parentheses or in brackets right after it
 pub data Use : Type 0 where
   Alone : Use
   Called : (labels : List (Option (List ℕ))) → Use
@@ -181,7 +182,7 @@ abbrev pub with_local : Name → ℕ → List Names → List Names
 with_local name node [] = []
 with_local name node (block ∷ around) = with_name name.text (meant.Local node) block ∷ around
 
--- a name is seen behind the statement that declares it
+-- a name is seen after the statement that declares it
 abbrev pub behind : List Names → T.Stmt → List Names
 behind blocks (T.Binding introducer name written value at) = with_local name at.node blocks
 behind blocks (T.Declare name written at) = with_local name at.node blocks
@@ -201,7 +202,8 @@ find_value around blocks None = []
 
 abbrev mutual
   pub find_stmt : Around → List Names → T.Stmt → List Finding
-  find_stmt around blocks (T.Binding introducer name written value at) = find_written around written ++ (find_expr around blocks value ++ declares (here blocks) name)
+  find_stmt around blocks (T.Binding introducer name written value at) =
+      find_written around written ++ (find_expr around blocks value ++ declares (here blocks) name)
   find_stmt around blocks (T.Declare name written at) = find_type around written ++ declares (here blocks) name
   find_stmt around blocks (T.Assign target value at) = find_expr around blocks target ++ find_expr around blocks value
   find_stmt around blocks (T.Compound target operator value at) = find_expr around blocks target ++ find_expr around blocks value
@@ -234,7 +236,8 @@ abbrev mutual
 -- type parameters, from the k-th on
 abbrev pub find_generics : File → Names → ℕ → List TypeParam → List Finding
 find_generics file before k [] = []
-find_generics file before k (p ∷ more) = (declares before p.name ++ find_traits file p.bounds) ++ find_generics file (with_name p.name.text (meant.Param k) before) (k + 1) more
+find_generics file before k (p ∷ more) =
+    (declares before p.name ++ find_traits file p.bounds) ++ find_generics file (with_name p.name.text (meant.Param k) before) (k + 1) more
 
 abbrev pub with_generics : Names → ℕ → List TypeParam → Names
 with_generics before k [] = before
@@ -242,7 +245,8 @@ with_generics before k (p ∷ more) = with_generics (with_name p.name.text (mean
 
 abbrev pub find_params : Around → Names → List T.Param → List Finding
 find_params around before [] = []
-find_params around before (p ∷ more) = (declares before p.name ++ find_type around p.written) ++ find_params around (with_name p.name.text (meant.Local p.at.node) before) more
+find_params around before (p ∷ more) =
+    (declares before p.name ++ find_type around p.written) ++ find_params around (with_name p.name.text (meant.Local p.at.node) before) more
 
 abbrev pub with_params : Names → List T.Param → Names
 with_params before [] = before
@@ -256,7 +260,7 @@ word_of mode.Sink = codes "sink"
 word_of mode.Set = codes "set"
 word_of mode.Yielded = codes "yielded"
 
--- a body inside the block of the parameters: the new value stands behind them
+-- a body inside the block of the parameters: the new value stands after them
 abbrev pub find_body : Around → List Names → T.Variant → Option Name → List Finding
 find_body around blocks v None = find_block around blocks v.block
 find_body around blocks v (Some value) = declares (here blocks) value ++ find_block around (with_local value v.at.node (no_names ∷ blocks)) v.block
@@ -264,10 +268,11 @@ find_body around blocks v (Some value) = declares (here blocks) value ++ find_bl
 abbrev pub find_variant : Around → List Names → Names → T.Variant → List Finding
 find_variant around blocks words v = when (is_there (words (word_of v.mode))) (Broken N2 (unwrap_or v.keyword v.at.span)) ++ find_body around blocks v v.value
 
--- variants behind those with these words
+-- variants after those with these words
 abbrev pub find_variants : Around → List Names → Names → List T.Variant → List Finding
 find_variants around blocks words [] = []
-find_variants around blocks words (v ∷ more) = find_variant around blocks words v ++ find_variants around blocks (with_name (word_of v.mode) meant.Nothing words) more
+find_variants around blocks words (v ∷ more) =
+    find_variant around blocks words v ++ find_variants around blocks (with_name (word_of v.mode) meant.Nothing words) more
 
 abbrev pub find_inside : Around → T.Callable → List Finding
 find_inside around c =
@@ -287,26 +292,27 @@ find_members around (member ∷ more) = find_member around member.kind ++ find_m
 
 -- DECLARATIONS
 
--- a member behind those of this family: a field may share its name with no member
+-- a member after those of this family: a field may share its name with no member
 abbrev pub twice_member : Family → T.MemberKind → List Finding
 twice_member family (T.Field name written) =
     when (is_there (family.fields name.text) || (is_there (family.bases name.text) || is_reserved name.text)) (Broken N2 name.span)
 twice_member family T.MemberwiseInit = []
 twice_member family (T.MemberCallable c) =
-    when (is_there (family.fields (base_text c.name)) || (is_there (family.callables (member_name c)) || (is_reserved (base_text c.name) || bytes_eq (member_name c) (codes "copy()")))) (Broken N2 (name_span c))
+    when (is_there (family.fields (base_text c.name)) || (is_there (family.callables (member_name c)) ||
+    (is_reserved (base_text c.name) || bytes_eq (member_name c) (codes "copy()")))) (Broken N2 (name_span c))
 
 abbrev pub twice_members : Family → List T.Member → List Finding
 twice_members family [] = []
 twice_members family (member ∷ more) = twice_member family member.kind ++ twice_members (with_member family member.at.node member.kind) more
 
--- a type or a trait behind the names of this file
+-- a type or a trait after the names of this file
 abbrev pub twice_type : File → Name → List Finding
 twice_type file name = when (is_there (file.types name.text) || (is_there (file.traits name.text) || is_reserved name.text)) (Broken N2 name.span)
 
 abbrev pub twice_callable : File → T.Callable → List Finding
 twice_callable file c = when (is_there (file.callables (own_name c)) || is_reserved (base_text c.name)) (Broken N2 (name_span c))
 
--- what is declared twice by a declaration behind the names of this file
+-- what is declared twice by a declaration after the names of this file
 abbrev pub twice_decl : File → T.DeclKind → List Finding
 twice_decl file (T.DeclCallable c) = twice_callable file c
 twice_decl file (T.DeclProduct p) = twice_type file p.name ++ twice_members (file.families p.name.text) p.members
@@ -320,11 +326,23 @@ twice_decls file (decl ∷ more) = twice_decl file decl.kind ++ twice_decls (wit
 abbrev pub find_decl : File → T.DeclKind → List Finding
 find_decl file (T.DeclCallable c) = find_callable (record { file = file; fields = no_names; generics = no_names; own = None }) c
 find_decl file (T.DeclProduct p) =
-    find_traits file p.traits ++ find_members (record { file = file; fields = (file.families p.name.text).fields; generics = no_names; own = Some (meant.Product p.at.node) }) p.members
+    find_traits file p.traits ++ find_members (record {
+      file = file;
+      fields = (file.families p.name.text).fields;
+      generics = no_names;
+      own =
+          Some (meant.Product p.at.node);
+    }) p.members
 find_decl file (T.DeclTrait t) = find_members (record { file = file; fields = no_names; generics = no_names; own = Some (meant.Param 0) }) t.members
 find_decl file (T.DeclConform c) =
     known N3 c.target.span c.target.node (file.types c.target.text)
-    ++ (find_traits file c.traits ++ find_members (record { file = file; fields = (file.families c.target.text).fields; generics = no_names; own = Some (unwrap_or (file.types c.target.text) meant.Nothing) }) c.members)
+    ++ (find_traits file c.traits ++ find_members (record {
+      file = file;
+      fields = (file.families c.target.text).fields;
+      generics = no_names;
+      own =
+          Some (unwrap_or (file.types c.target.text) meant.Nothing);
+    }) c.members)
 
 abbrev pub find_decls : File → List T.Decl → List Finding
 find_decls file [] = []
@@ -342,7 +360,8 @@ none [] = true
 none (x ∷ more) = false
 
 abbrev pub is_main : T.DeclKind → Bool
-is_main (T.DeclCallable c) = is_function c.kind && (bytes_eq (base_text c.name) (codes "main") && (none c.generics && (none c.params && not (is_there c.result))))
+is_main (T.DeclCallable c) =
+    is_function c.kind && (bytes_eq (base_text c.name) (codes "main") && (none c.generics && (none c.params && not (is_there c.result))))
 is_main (T.DeclProduct p) = false
 is_main (T.DeclTrait t) = false
 is_main (T.DeclConform c) = false

@@ -3,7 +3,13 @@ use Rattle.std.specs.Prelude.{ℕ, ◌+◌, List, [], ◌∷◌, ◌++◌, Optio
 use Rattle.std.specs.List.{flat_map}
 use Rattle.hy_tree.specs.declared.declaration.TypeParam.{TypeParam}
 use Rattle.hy_tree.specs.declared.name.NameUse.{NameUse}
-use Rattle.hy_tree.specs.Tree.{At, TypeExp, NamedType, SelfType, ArrayType, TupleType, TypeExps, NoType, ThenType, Expr, Chain, Unary, Marked, Postfix, Number, Truth, Named, SelfValue, EmptyArray, Tuple, Array, IfElse, Exprs, NoExpr, ThenExpr, Links, NoLink, ThenLink, Step, MemberStep, PartStep, CallStep, IndexStep, Steps, NoStep, ThenStep, Args, NoArg, ThenArg, Choices, NoChoice, ThenChoice, Stmt, Binding, Declare, Assign, Compound, Evaluate, If, While, Return, Break, Continue, Yield, Stmts, NoStmt, ThenStmt, Block, Braces, Branches, NoBranch, ThenBranch, Otherwise, NoElse, Else, Param, Variant, Callable, MemberKind, Field, MemberwiseInit, MemberCallable, Member, Product, TraitDef, Conform, DeclKind, DeclCallable, DeclProduct, DeclTrait, DeclConform, Decl, Program}
+use Rattle.hy_tree.specs.Tree.{At, TypeExp, NamedType, SelfType, ArrayType, TupleType, TypeExps, NoType, ThenType, Expr, Chain, Unary, Marked, Postfix}
+use Rattle.hy_tree.specs.Tree.{Number, Truth, Named, SelfValue, EmptyArray, Tuple, Array, IfElse, Exprs, NoExpr, ThenExpr, Links, NoLink, ThenLink, Step}
+use Rattle.hy_tree.specs.Tree.{MemberStep, PartStep, CallStep, IndexStep, Steps, NoStep, ThenStep, Args, NoArg, ThenArg, Choices, NoChoice, ThenChoice}
+use Rattle.hy_tree.specs.Tree.{Stmt, Binding, Declare, Assign, Compound, Evaluate, If, While, Return, Break, Continue, Yield, Stmts, NoStmt, ThenStmt}
+use Rattle.hy_tree.specs.Tree.{Block, Braces, Branches, NoBranch, ThenBranch, Otherwise, NoElse, Else, Param, Variant, Callable, MemberKind, Field}
+use Rattle.hy_tree.specs.Tree.{MemberwiseInit, MemberCallable, Member, Product, TraitDef, Conform, DeclKind, DeclCallable, DeclProduct, DeclTrait}
+use Rattle.hy_tree.specs.Tree.{DeclConform, Decl, Program}
 
 -- THE NUMBERS OF THE NODES, IN PREORDER
 
@@ -105,7 +111,9 @@ abbrev pub nodes_variant : Variant → List ℕ
 nodes_variant v = v.at.node ∷ nodes_block v.block
 
 abbrev pub nodes_callable : Callable → List ℕ
-nodes_callable c = c.at.node ∷ flat_map nodes_generic c.generics ++ flat_map nodes_param c.params ++ nodes_optional nodes_type c.result ++ flat_map nodes_variant c.variants
+nodes_callable c =
+    c.at.node ∷ flat_map nodes_generic c.generics ++ flat_map nodes_param c.params ++ nodes_optional nodes_type c.result ++ flat_map nodes_variant
+    c.variants
 
 abbrev pub nodes_member_kind : MemberKind → List ℕ
 nodes_member_kind (Field name written) = nodes_type written
@@ -240,7 +248,8 @@ abbrev pub count_variant : Variant → ℕ
 count_variant v = 1 + count_block v.block
 
 abbrev pub count_callable : Callable → ℕ
-count_callable c = 1 + count_all count_generic c.generics + count_all count_param c.params + count_optional count_type c.result + count_all count_variant c.variants
+count_callable c =
+    1 + count_all count_generic c.generics + count_all count_param c.params + count_optional count_type c.result + count_all count_variant c.variants
 
 abbrev pub count_member_kind : MemberKind → ℕ
 count_member_kind (Field name written) = count_type written
@@ -280,7 +289,7 @@ abbrev pub number_optional : {A : Type 0} → (ℕ → A → A) → ℕ → Opti
 number_optional number n None = None
 number_optional number n (Some part) = Some (number n part)
 
--- parts that stand one behind the other
+-- parts that stand one after the other
 abbrev pub number_all : {A : Type 0} → (A → ℕ) → (ℕ → A → A) → ℕ → List A → List A
 number_all count number n [] = []
 number_all count number n (part ∷ more) = number n part ∷ number_all count number (n + count part) more
@@ -317,7 +326,8 @@ abbrev mutual
 
   pub number_links : ℕ → Links → Links
   number_links n NoLink = NoLink
-  number_links n (ThenLink operator token operand at more) = ThenLink operator token (number_expr (n + 1) operand) (numbered n at) (number_links (n + 1 + count_expr operand) more)
+  number_links n (ThenLink operator token operand at more) =
+      ThenLink operator token (number_expr (n + 1) operand) (numbered n at) (number_links (n + 1 + count_expr operand) more)
 
   pub number_step : ℕ → Step → Step
   number_step n (MemberStep name at) = MemberStep name (numbered n at)
@@ -335,17 +345,23 @@ abbrev mutual
 
   pub number_choices : ℕ → Choices → Choices
   number_choices n NoChoice = NoChoice
-  number_choices n (ThenChoice token condition value more) = ThenChoice token (number_expr n condition) (number_expr (n + count_expr condition) value) (number_choices (n + count_expr condition + count_expr value) more)
+  number_choices n (ThenChoice token condition value more) =
+      ThenChoice token (number_expr n condition) (number_expr (n + count_expr condition) value)
+      (number_choices (n + count_expr condition + count_expr value) more)
 
 abbrev mutual
   pub number_stmt : ℕ → Stmt → Stmt
-  number_stmt n (Binding introducer name written value at) = Binding introducer name (number_optional number_type (n + 1) written) (number_expr (n + 1 + count_optional count_type written) value) (numbered n at)
+  number_stmt n (Binding introducer name written value at) =
+      Binding introducer name (number_optional number_type (n + 1) written) (number_expr (n + 1 + count_optional count_type written) value) (numbered n at)
   number_stmt n (Declare name written at) = Declare name (number_type (n + 1) written) (numbered n at)
   number_stmt n (Assign target value at) = Assign (number_expr (n + 1) target) (number_expr (n + 1 + count_expr target) value) (numbered n at)
-  number_stmt n (Compound target operator value at) = Compound (number_expr (n + 1) target) operator (number_expr (n + 1 + count_expr target) value) (numbered n at)
+  number_stmt n (Compound target operator value at) =
+      Compound (number_expr (n + 1) target) operator (number_expr (n + 1 + count_expr target) value) (numbered n at)
   number_stmt n (Evaluate value at) = Evaluate (number_expr (n + 1) value) (numbered n at)
-  number_stmt n (If branches otherwise at) = If (number_branches (n + 1) branches) (number_otherwise (n + 1 + count_branches branches) otherwise) (numbered n at)
-  number_stmt n (While token condition body at) = While token (number_expr (n + 1) condition) (number_block (n + 1 + count_expr condition) body) (numbered n at)
+  number_stmt n (If branches otherwise at) =
+      If (number_branches (n + 1) branches) (number_otherwise (n + 1 + count_branches branches) otherwise) (numbered n at)
+  number_stmt n (While token condition body at) = While token (number_expr (n + 1) condition)
+      (number_block (n + 1 + count_expr condition) body) (numbered n at)
   number_stmt n (Return token value at) = Return token (number_optional number_expr (n + 1) value) (numbered n at)
   number_stmt n (Break at) = Break (numbered n at)
   number_stmt n (Continue at) = Continue (numbered n at)
@@ -360,7 +376,9 @@ abbrev mutual
 
   pub number_branches : ℕ → Branches → Branches
   number_branches n NoBranch = NoBranch
-  number_branches n (ThenBranch token condition body more) = ThenBranch token (number_expr n condition) (number_block (n + count_expr condition) body) (number_branches (n + count_expr condition + count_block body) more)
+  number_branches n (ThenBranch token condition body more) =
+      ThenBranch token (number_expr n condition) (number_block (n + count_expr condition) body)
+      (number_branches (n + count_expr condition + count_block body) more)
 
   pub number_otherwise : ℕ → Otherwise → Otherwise
   number_otherwise n NoElse = NoElse

@@ -6,7 +6,8 @@ use Rattle.hy_tree.specs.declared.declaration.CallableKind.TheVariants.{Function
 use Rattle.hy_tree.specs.declared.declaration.Label.{Label}
 use Rattle.hy_tree.specs.declared.declaration.Label.TheVariants.{Text, Nothing, Same}
 use Rattle.hy_tree.specs.declared.name.Name.{Name}
-use Rattle.hy_tree.specs.Tree.{Expr, Chain, Unary, Marked, Postfix, Number, Truth, Named, SelfValue, EmptyArray, Tuple, Array, IfElse, Param, Variant, Callable}
+use Rattle.hy_tree.specs.Tree.{Expr, Chain, Unary, Marked, Postfix, Number, Truth, Named, SelfValue}
+use Rattle.hy_tree.specs.Tree.{EmptyArray, Tuple, Array, IfElse, Param, Variant, Callable}
 
 abbrev label_text : Label → List ℕ → Option (List ℕ)
 label_text (Text text) name = Some text

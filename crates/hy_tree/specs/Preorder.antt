@@ -9,7 +9,7 @@ pub record IsNumbered (program : Program) : Type 0 where
   pub preorder : nodes_program program ≡ range_with_len 0 (count_program program)
   pub small : count_program program < 2 ^ 32
 
--- A node comes before its parts and the parts before those behind them: in that order the numbers rise, so none comes twice.
+-- A node comes before its parts and the parts before those after them: in that order the numbers rise, so none comes twice.
 -- Each is below the number of nodes, and each number below it comes.
 pub record HasEachOnce (program : Program) : Type 0 where
   pub rising : AllPairs (λ one other. one < other) (nodes_program program)

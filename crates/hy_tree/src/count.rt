@@ -1,9 +1,12 @@
 // How many nodes a tree has.
 ghost use Rattle.std.specs.Prelude.{◌≡◌, ◌-◌, ◌^◌, min};
 ghost use Rattle.std.specs.Option.{option_map};
-ghost use Rattle.hy_tree.specs.Denotes.{type_of, types_of, expr_of, exprs_of, links_of, step_of, steps_of, args_of, choices_of, stmt_of, stmts_of, block_of, branches_of, else_of, param_of, variant_of, callable_of, member_of, decl_of, program_of};
+ghost use Rattle.hy_tree.specs.Denotes.{type_of, types_of, expr_of, exprs_of, links_of, step_of, steps_of, args_of, choices_of, stmt_of, stmts_of};
+ghost use Rattle.hy_tree.specs.Denotes.{block_of, branches_of, else_of, param_of, variant_of, callable_of, member_of, decl_of, program_of};
 ghost use Rattle.hy_tree.specs.Numbering.{IsCountedFrom, AreCountedFrom};
-ghost use Rattle.hy_tree.specs.Numbers.{count_optional, count_type, count_types, count_expr, count_exprs, count_links, count_step, count_steps, count_args, count_choices, count_stmt, count_stmts, count_block, count_branches, count_otherwise, count_use, count_generic, count_param, count_variant, count_callable, count_member, count_decl, count_program};
+ghost use Rattle.hy_tree.specs.Numbers.{count_optional, count_type, count_types, count_expr, count_exprs, count_links, count_step, count_steps, count_args};
+ghost use Rattle.hy_tree.specs.Numbers.{count_choices, count_stmt, count_stmts, count_block, count_branches, count_otherwise, count_use, count_generic};
+ghost use Rattle.hy_tree.specs.Numbers.{count_param, count_variant, count_callable, count_member, count_decl, count_program};
 
 use crate::declaration::{
     Callable, Decl, DeclKind, Member, MemberKind, Param, Program, TypeParam, Variant,

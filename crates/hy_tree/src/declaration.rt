@@ -46,7 +46,7 @@ pub struct Callable {
     pub name: Option<Name>,
     pub generics: Items<TypeParam>,
     pub params: Items<Param>,
-    /// The convention of `self` where it is written behind the parameters.
+    /// The convention of `self` where it is written after the parameters.
     pub effect: Option<Mode>,
     pub result: Option<TypeExp>,
     /// One without a keyword where one plain body stands, and none where a trait requires it.

@@ -25,7 +25,7 @@ pub enum ExprKind {
     Unary(UnaryOperator, Boxed<Expr>),
     /// `&` before a place or a method call
     Marked(Boxed<Expr>),
-    /// A primary expression, and one or more steps behind it.
+    /// A primary expression, and one or more steps after it.
     Postfix(Boxed<Expr>, Items<Step>),
     /// `NUMBER`
     Number(i64),
@@ -58,7 +58,7 @@ pub struct Link {
     pub node: u32,
 }
 
-/// A step behind a primary expression.
+/// A step after a primary expression.
 #[cycle(expression)]
 #[derive(Drop)]
 pub struct Step {

@@ -1,9 +1,15 @@
 // Numbers for the nodes of declarations.
 ghost use Rattle.std.specs.Prelude.{◌≡◌, ◌<◌, ◌^◌, IfOk, OnOk};
-ghost use Rattle.hy_tree.specs.Denotes.{param_of, variant_of, callable_of, member_kind_of, member_of, product_of, trait_of, conform_of, decl_kind_of, decl_of, program_of};
+ghost use Rattle.hy_tree.specs.Denotes.{param_of, variant_of, callable_of, member_kind_of, member_of, product_of, trait_of, conform_of, decl_kind_of};
+ghost use Rattle.hy_tree.specs.Denotes.{decl_of, program_of};
 ghost use Rattle.hy_tree.specs.Preorder.{IsNumbered};
 ghost use Rattle.hy_tree.specs.Numbering.{IsNumberedFrom, AreNumberedFrom};
-ghost use Rattle.hy_tree.specs.Numbers.{count_use, number_use as use_numbered, count_generic, number_generic as generic_numbered, count_param, number_param as param_numbered, count_variant, number_variant as variant_numbered, count_callable, number_callable as callable_numbered, count_member_kind, number_member_kind as member_kind_numbered, count_member, number_member as member_numbered, count_product, number_product as product_numbered, count_trait, number_trait as trait_numbered, count_conform, number_conform as conform_numbered, count_decl_kind, number_decl_kind as decl_kind_numbered, count_decl, number_decl as decl_numbered, count_program, number_program};
+ghost use Rattle.hy_tree.specs.Numbers.{count_use, number_use as use_numbered, count_generic, number_generic as generic_numbered, count_param};
+ghost use Rattle.hy_tree.specs.Numbers.{number_param as param_numbered, count_variant, number_variant as variant_numbered, count_callable};
+ghost use Rattle.hy_tree.specs.Numbers.{number_callable as callable_numbered, count_member_kind, number_member_kind as member_kind_numbered, count_member};
+ghost use Rattle.hy_tree.specs.Numbers.{number_member as member_numbered, count_product, number_product as product_numbered, count_trait};
+ghost use Rattle.hy_tree.specs.Numbers.{number_trait as trait_numbered, count_conform, number_conform as conform_numbered, count_decl_kind};
+ghost use Rattle.hy_tree.specs.Numbers.{number_decl_kind as decl_kind_numbered, count_decl, number_decl as decl_numbered, count_program, number_program};
 
 use crate::declaration::{
     Callable, Conform, Decl, DeclKind, Label, Member, MemberKind, Param, Product, Program,

@@ -1,7 +1,8 @@
 // Numbers for the nodes of expressions.
 ghost use Rattle.hy_tree.specs.Denotes.{expr_kind_of, expr_of, exprs_of, links_of, step_kind_of, step_of, steps_of, args_of, choices_of};
 ghost use Rattle.hy_tree.specs.Numbering.{IsNumberedFrom, IsKindNumberedFrom};
-ghost use Rattle.hy_tree.specs.Numbers.{count_expr, number_expr as expr_numbered, count_exprs, number_exprs as exprs_numbered, count_links, number_links as links_numbered, count_step, number_step as step_numbered, count_steps, number_steps as steps_numbered, count_args, number_args as args_numbered, count_choices, number_choices as choices_numbered};
+ghost use Rattle.hy_tree.specs.Numbers as numbers;
+ghost use Rattle.hy_tree.specs.Numbers.{count_expr, count_exprs, count_links, count_step, count_steps, count_args, count_choices};
 
 use crate::expression::{Arg, Choice, Expr, ExprKind, Link, Step, StepKind};
 use crate::number_written::number_type;
@@ -13,7 +14,7 @@ use std::alloc::Global;
 /// The same expression, with its nodes numbered from `next` on.
 #[cycle(expressions)]
 pub fn number_expr(alloc: Global, next: &mut u32, e: &Expr) -> Result<Expr, NoMemory>
-    ensures { IsNumberedFrom expr_of count_expr expr_numbered next.old e.now result next.new }
+    ensures { IsNumberedFrom expr_of count_expr numbers.number_expr next.old e.now result next.new }
 {
     let node = take(next)?;
     let kind = number_expr_kind(alloc, next, &e.kind)?;
@@ -26,7 +27,7 @@ pub fn number_expr(alloc: Global, next: &mut u32, e: &Expr) -> Result<Expr, NoMe
 
 #[cycle(expressions)]
 fn number_boxed(alloc: Global, next: &mut u32, e: &Boxed<Expr>) -> Result<Boxed<Expr>, NoMemory>
-    ensures { IsNumberedFrom expr_of count_expr expr_numbered next.old e.now result next.new }
+    ensures { IsNumberedFrom expr_of count_expr numbers.number_expr next.old e.now result next.new }
 {
     let e = number_expr(alloc, next, e.get())?;
     Ok(Boxed::new(alloc, e)?)
@@ -35,7 +36,7 @@ fn number_boxed(alloc: Global, next: &mut u32, e: &Boxed<Expr>) -> Result<Boxed<
 #[cycle(expressions)]
 #[tactic(auto, using(crate::proofs::Equations::expr_variants))]
 fn number_expr_kind(alloc: Global, next: &mut u32, kind: &ExprKind) -> Result<ExprKind, NoMemory>
-    ensures { IsKindNumberedFrom expr_kind_of count_expr expr_numbered next.old kind.now result next.new }
+    ensures { IsKindNumberedFrom expr_kind_of count_expr numbers.number_expr next.old kind.now result next.new }
 {
     match kind {
         ExprKind::Chain(first, links) => {
@@ -70,7 +71,7 @@ fn number_expr_kind(alloc: Global, next: &mut u32, kind: &ExprKind) -> Result<Ex
 
 #[cycle(expressions)]
 fn number_exprs(alloc: Global, next: &mut u32, parts: &[Expr]) -> Result<Items<Expr>, NoMemory>
-    ensures { IsNumberedFrom exprs_of count_exprs exprs_numbered next.old parts.now result next.new }
+    ensures { IsNumberedFrom exprs_of count_exprs numbers.number_exprs next.old parts.now result next.new }
 {
     let mut made = Items::new(alloc);
     for part in parts {
@@ -81,7 +82,7 @@ fn number_exprs(alloc: Global, next: &mut u32, parts: &[Expr]) -> Result<Items<E
 
 #[cycle(expressions)]
 fn number_links(alloc: Global, next: &mut u32, links: &[Link]) -> Result<Items<Link>, NoMemory>
-    ensures { IsNumberedFrom links_of count_links links_numbered next.old links.now result next.new }
+    ensures { IsNumberedFrom links_of count_links numbers.number_links next.old links.now result next.new }
 {
     let mut made = Items::new(alloc);
     for link in links {
@@ -100,7 +101,7 @@ fn number_links(alloc: Global, next: &mut u32, links: &[Link]) -> Result<Items<L
 
 #[cycle(expressions)]
 fn number_step(alloc: Global, next: &mut u32, step: &Step) -> Result<Step, NoMemory>
-    ensures { IsNumberedFrom step_of count_step step_numbered next.old step.now result next.new }
+    ensures { IsNumberedFrom step_of count_step numbers.number_step next.old step.now result next.new }
 {
     let node = take(next)?;
     let kind = number_step_kind(alloc, next, &step.kind)?;
@@ -114,7 +115,7 @@ fn number_step(alloc: Global, next: &mut u32, step: &Step) -> Result<Step, NoMem
 #[cycle(expressions)]
 #[tactic(auto, using(crate::proofs::Equations::step_variants))]
 fn number_step_kind(alloc: Global, next: &mut u32, kind: &StepKind) -> Result<StepKind, NoMemory>
-    ensures { IsKindNumberedFrom step_kind_of count_step step_numbered next.old kind.now result next.new }
+    ensures { IsKindNumberedFrom step_kind_of count_step numbers.number_step next.old kind.now result next.new }
 {
     match kind {
         StepKind::Member(name) => Ok(StepKind::Member(copy_name(alloc, name)?)),
@@ -126,7 +127,7 @@ fn number_step_kind(alloc: Global, next: &mut u32, kind: &StepKind) -> Result<St
 
 #[cycle(expressions)]
 fn number_steps(alloc: Global, next: &mut u32, steps: &[Step]) -> Result<Items<Step>, NoMemory>
-    ensures { IsNumberedFrom steps_of count_steps steps_numbered next.old steps.now result next.new }
+    ensures { IsNumberedFrom steps_of count_steps numbers.number_steps next.old steps.now result next.new }
 {
     let mut made = Items::new(alloc);
     for step in steps {
@@ -137,7 +138,7 @@ fn number_steps(alloc: Global, next: &mut u32, steps: &[Step]) -> Result<Items<S
 
 #[cycle(expressions)]
 fn number_args(alloc: Global, next: &mut u32, args: &[Arg]) -> Result<Items<Arg>, NoMemory>
-    ensures { IsNumberedFrom args_of count_args args_numbered next.old args.now result next.new }
+    ensures { IsNumberedFrom args_of count_args numbers.number_args next.old args.now result next.new }
 {
     let mut made = Items::new(alloc);
     for arg in args {
@@ -154,7 +155,7 @@ fn number_choices(
     next: &mut u32,
     choices: &[Choice],
 ) -> Result<Items<Choice>, NoMemory>
-    ensures { IsNumberedFrom choices_of count_choices choices_numbered next.old choices.now result next.new }
+    ensures { IsNumberedFrom choices_of count_choices numbers.number_choices next.old choices.now result next.new }
 {
     let mut made = Items::new(alloc);
     for choice in choices {

@@ -1,8 +1,10 @@
 // Numbers for the nodes of statements.
 ghost use Rattle.std.specs.Option.{option_map};
 ghost use Rattle.hy_tree.specs.Denotes.{type_of, expr_of, stmt_kind_of, stmt_of, stmts_of, block_of, branches_of, else_of};
-ghost use Rattle.hy_tree.specs.Numbering.{IsNumberedFrom, IsKindNumberedFrom};
-ghost use Rattle.hy_tree.specs.Numbers.{count_optional, number_optional, count_type, number_type as type_numbered, count_expr, number_expr as expr_numbered, count_stmt, number_stmt as stmt_numbered, count_stmts, number_stmts as stmts_numbered, count_block, number_block as block_numbered, count_branches, number_branches as branches_numbered, count_otherwise, number_otherwise as otherwise_numbered};
+ghost use Rattle.hy_tree.specs.Numbering.{IsNumberedFrom, IsKindNumberedFrom, AreTwoNumberedFrom};
+ghost use Rattle.hy_tree.specs.Numbers as numbers;
+ghost use Rattle.hy_tree.specs.Numbers.{count_optional, number_optional, count_type, count_expr, count_stmt, count_stmts};
+ghost use Rattle.hy_tree.specs.Numbers.{count_block, count_branches, count_otherwise};
 
 use crate::expression::Expr;
 use crate::number_expression::number_expr;
@@ -20,7 +22,7 @@ pub fn number_optional_type(
     next: &mut u32,
     written: &Option<TypeExp>,
 ) -> Result<Option<TypeExp>, NoMemory>
-    ensures { IsNumberedFrom (option_map type_of) (count_optional count_type) (number_optional type_numbered) next.old written.now result next.new }
+    ensures { IsNumberedFrom (option_map type_of) (count_optional count_type) (number_optional numbers.number_type) next.old written.now result next.new }
 {
     match written {
         Some(written) => Ok(Some(number_type(alloc, next, written)?)),
@@ -33,7 +35,7 @@ fn number_optional_expr(
     next: &mut u32,
     value: &Option<Expr>,
 ) -> Result<Option<Expr>, NoMemory>
-    ensures { IsNumberedFrom (option_map expr_of) (count_optional count_expr) (number_optional expr_numbered) next.old value.now result next.new }
+    ensures { IsNumberedFrom (option_map expr_of) (count_optional count_expr) (number_optional numbers.number_expr) next.old value.now result next.new }
 {
     match value {
         Some(value) => Ok(Some(number_expr(alloc, next, value)?)),
@@ -41,9 +43,37 @@ fn number_optional_expr(
     }
 }
 
+// The written type of a binding, and its value.
+fn number_bound(
+    alloc: Global,
+    next: &mut u32,
+    written: &Option<TypeExp>,
+    value: &Expr,
+) -> Result<(Option<TypeExp>, Expr), NoMemory>
+    ensures { AreTwoNumberedFrom (option_map type_of) (count_optional count_type)
+        (number_optional numbers.number_type) expr_of count_expr numbers.number_expr next.old
+        written.now value.now result next.new }
+{
+    let written = number_optional_type(alloc, next, written)?;
+    Ok((written, number_expr(alloc, next, value)?))
+}
+
+// Two expressions, one after the other.
+fn number_two(
+    alloc: Global,
+    next: &mut u32,
+    one: &Expr,
+    other: &Expr,
+) -> Result<(Expr, Expr), NoMemory>
+    ensures { AreTwoNumberedFrom expr_of count_expr numbers.number_expr expr_of count_expr numbers.number_expr next.old one.now other.now result next.new }
+{
+    let one = number_expr(alloc, next, one)?;
+    Ok((one, number_expr(alloc, next, other)?))
+}
+
 #[cycle(statements)]
 fn number_stmt(alloc: Global, next: &mut u32, stmt: &Stmt) -> Result<Stmt, NoMemory>
-    ensures { IsNumberedFrom stmt_of count_stmt stmt_numbered next.old stmt.now result next.new }
+    ensures { IsNumberedFrom stmt_of count_stmt numbers.number_stmt next.old stmt.now result next.new }
 {
     let node = take(next)?;
     let kind = number_stmt_kind(alloc, next, &stmt.kind)?;
@@ -57,13 +87,12 @@ fn number_stmt(alloc: Global, next: &mut u32, stmt: &Stmt) -> Result<Stmt, NoMem
 #[cycle(statements)]
 #[tactic(auto, using(crate::proofs::Equations::stmt_variants))]
 fn number_stmt_kind(alloc: Global, next: &mut u32, kind: &StmtKind) -> Result<StmtKind, NoMemory>
-    ensures { IsKindNumberedFrom stmt_kind_of count_stmt stmt_numbered next.old kind.now result next.new }
+    ensures { IsKindNumberedFrom stmt_kind_of count_stmt numbers.number_stmt next.old kind.now result next.new }
 {
     match kind {
         StmtKind::Binding(introducer, name, written, value) => {
             let name = copy_name(alloc, name)?;
-            let written = number_optional_type(alloc, next, written)?;
-            let value = number_expr(alloc, next, value)?;
+            let (written, value) = number_bound(alloc, next, written, value)?;
             Ok(StmtKind::Binding(*introducer, name, written, value))
         }
         StmtKind::Declare(name, written) => {
@@ -71,12 +100,12 @@ fn number_stmt_kind(alloc: Global, next: &mut u32, kind: &StmtKind) -> Result<St
             Ok(StmtKind::Declare(name, number_type(alloc, next, written)?))
         }
         StmtKind::Assign(target, value) => {
-            let target = number_expr(alloc, next, target)?;
-            Ok(StmtKind::Assign(target, number_expr(alloc, next, value)?))
+            let (target, value) = number_two(alloc, next, target, value)?;
+            Ok(StmtKind::Assign(target, value))
         }
         StmtKind::Compound(target, operator, value) => {
-            let target = number_expr(alloc, next, target)?;
-            Ok(StmtKind::Compound(target, *operator, number_expr(alloc, next, value)?))
+            let (target, value) = number_two(alloc, next, target, value)?;
+            Ok(StmtKind::Compound(target, *operator, value))
         }
         StmtKind::Expr(value) => Ok(StmtKind::Expr(number_expr(alloc, next, value)?)),
         StmtKind::If(branches, otherwise) => {
@@ -101,7 +130,7 @@ fn number_stmt_kind(alloc: Global, next: &mut u32, kind: &StmtKind) -> Result<St
 
 #[cycle(statements)]
 fn number_stmts(alloc: Global, next: &mut u32, stmts: &[Stmt]) -> Result<Items<Stmt>, NoMemory>
-    ensures { IsNumberedFrom stmts_of count_stmts stmts_numbered next.old stmts.now result next.new }
+    ensures { IsNumberedFrom stmts_of count_stmts numbers.number_stmts next.old stmts.now result next.new }
 {
     let mut made = Items::new(alloc);
     for stmt in stmts {
@@ -113,7 +142,7 @@ fn number_stmts(alloc: Global, next: &mut u32, stmts: &[Stmt]) -> Result<Items<S
 /// The same block, with its nodes numbered from `next` on.
 #[cycle(statements)]
 pub fn number_block(alloc: Global, next: &mut u32, block: &Block) -> Result<Block, NoMemory>
-    ensures { IsNumberedFrom block_of count_block block_numbered next.old block.now result next.new }
+    ensures { IsNumberedFrom block_of count_block numbers.number_block next.old block.now result next.new }
 {
     let node = take(next)?;
     let stmts = number_stmts(alloc, next, block.stmts.as_slice())?;
@@ -130,7 +159,7 @@ fn number_branches(
     next: &mut u32,
     branches: &[Branch],
 ) -> Result<Items<Branch>, NoMemory>
-    ensures { IsNumberedFrom branches_of count_branches branches_numbered next.old branches.now result next.new }
+    ensures { IsNumberedFrom branches_of count_branches numbers.number_branches next.old branches.now result next.new }
 {
     let mut made = Items::new(alloc);
     for branch in branches {
@@ -151,7 +180,7 @@ fn number_else(
     next: &mut u32,
     otherwise: &Option<Block>,
 ) -> Result<Option<Block>, NoMemory>
-    ensures { IsNumberedFrom else_of count_otherwise otherwise_numbered next.old otherwise.now result next.new }
+    ensures { IsNumberedFrom else_of count_otherwise numbers.number_otherwise next.old otherwise.now result next.new }
 {
     match otherwise {
         Some(block) => Ok(Some(number_block(alloc, next, block)?)),

@@ -26,3 +26,17 @@ pub const REMOVE_LAST: u32 = 10;
 pub const SWAP_AT: u32 = 11;
 /// The member `copy()` of every copyable value.
 pub const COPY: u32 = 12;
+/// The type `Int8`.
+pub const INT8: u32 = 13;
+/// The type `Int16`.
+pub const INT16: u32 = 14;
+/// The type `Int32`.
+pub const INT32: u32 = 15;
+/// The type `UInt8`.
+pub const UINT8: u32 = 16;
+/// The type `UInt16`.
+pub const UINT16: u32 = 17;
+/// The type `UInt32`.
+pub const UINT32: u32 = 18;
+/// The type `UInt64`.
+pub const UINT64: u32 = 19;

@@ -1,5 +1,6 @@
 -- What putting a type into a table does.
-use Rattle.std.proofs.Common.{◌≡◌, ◌<◌, ◌⊎◌, ◌↔◌, inl, inr, ℕ, suc, zero, Bool, true, false, not, ◌||◌, List, [], ◌∷◌, ◌++◌, length, reverse, if◌then◌else◌, Some, slice_get, refl, sym, ap, subst, ◌∙◌, arith, true≢false}
+use Rattle.std.proofs.Common.{◌≡◌, ◌<◌, ◌⊎◌, ◌↔◌, inl, inr, ℕ, suc, zero, Bool, true, false, not, ◌||◌, List, [], ◌∷◌, ◌++◌, length, reverse, if◌then◌else◌}
+use Rattle.std.proofs.Common.{Some, slice_get, refl, sym, ap, subst, ◌∙◌, arith, true≢false}
 use Rattle.std.specs.List.{list_any}
 use Rattle.std.proofs.lemmas.List.{length-reverse, append-nil}
 use Rattle.std.proofs.lemmas.Option.{slice_get_within}
@@ -12,9 +13,32 @@ use Rattle.hy_types.specs.Types.{Table, AllBelow, mentioned, row_at, HasId, type
 use Rattle.hy_types.specs.Rows.{AreRows}
 use Rattle.hy_types.proofs.Reading.{slice_get-push, reverse-push, row_in_types, type_in-before, same_meant, type_at, one_number}
 use Rattle.hy_types.specs.contracts.kinds.TyPartialEq.TheImpl.{ghosts}
+use Rattle.hy_base.specs.declared.numbers.Num.{Num}
+use Rattle.hy_base.specs.declared.numbers.Num.TheVariants.{I8, I16, I32, U8, U16, U32, U64}
+use Rattle.hy_base.specs.contracts.numbers.NumPartialEq.TheImpl as nums
+
+same_num : (a b : Num) → nums.ghosts.eq a b ≡ true → a ≡ b
+same_num I8 I8 e = refl
+same_num I16 I16 e = refl
+same_num I32 I32 e = refl
+same_num U8 U8 e = refl
+same_num U16 U16 e = refl
+same_num U32 U32 e = refl
+same_num U64 U64 e = refl
+same_num a b e = absurd (true≢false (sym e))
+
+num_itself : (a : Num) → nums.ghosts.eq a a ≡ true
+num_itself I8 = refl
+num_itself I16 = refl
+num_itself I32 = refl
+num_itself U8 = refl
+num_itself U16 = refl
+num_itself U32 = refl
+num_itself U64 = refl
 
 pub same_row : (a b : Ty) → ghosts.eq a b ≡ true → a ≡ b
 same_row ty.Int ty.Int e = refl
+same_row (ty.Sized a) (ty.Sized b) e = ap ty.Sized (same_num a b e)
 same_row ty.Bool ty.Bool e = refl
 same_row (ty.Tuple xs) (ty.Tuple ys) e = ap ty.Tuple ((same_ids-Decides xs ys).0 e)
 same_row (ty.Product a) (ty.Product b) e = ap ty.Product ((unsigned_Decides a b).0 e)
@@ -24,6 +48,7 @@ same_row a b e = absurd (true≢false (sym e))
 
 row_itself : (a : Ty) → ghosts.eq a a ≡ true
 row_itself ty.Int = refl
+row_itself (ty.Sized a) = num_itself a
 row_itself ty.Bool = refl
 row_itself (ty.Tuple xs) = (same_ids-Decides xs xs).1 refl
 row_itself (ty.Product a) = (unsigned_Decides a a).1 refl
@@ -46,9 +71,11 @@ is_new row (x ∷ rows) none (suc n) e = is_new row rows (rest (ghosts.eq row x)
 -- a row has its number in a table, put last or there before
 pub record Interned (old new : Table) (row : Ty) (id : TyId) : Type 0 where
   pub at : row_at new id ≡ Some row
-  pub how : (new ≡ old) ⊎ ((new ≡ record { types = old.types ++ row ∷ []; products = old.products }) × (id.at ≡ length old.types) × ((n : ℕ) → slice_get old.types n ≡ Some row → ⊥))
+  pub how : (new ≡ old) ⊎ ((new ≡ record { types = old.types ++ row ∷ []; products = old.products }) × (id.at ≡ length old.types)
+      × ((n : ℕ) → slice_get old.types n ≡ Some row → ⊥))
 
-pub interned : (old new : Table) (row : Ty) (place : ℕ) (added : Bool) → added ≡ not (list_any (ghosts.eq row) old.types) → new.types ≡ (if list_any (ghosts.eq row) old.types then old.types else old.types ++ row ∷ [])
+pub interned : (old new : Table) (row : Ty) (place : ℕ) (added : Bool) → added ≡ not (list_any (ghosts.eq row) old.types)
+    → new.types ≡ (if list_any (ghosts.eq row) old.types then old.types else old.types ++ row ∷ [])
     → new.products ≡ old.products → (k : Ty) → slice_get new.types place ≡ Some k → ghosts.eq row k ≡ true → Interned old new row (record { at = place })
 interned old new row place added is keys products k at same = by (list_any (ghosts.eq row) old.types) refl
   where
@@ -56,7 +83,11 @@ interned old new row place added is keys products k at same = by (list_any (ghos
     here = at ∙ ap Some (sym (same_row row k same))
 
     by : (b : Bool) → list_any (ghosts.eq row) old.types ≡ b → Interned old new row (record { at = place })
-    by true e = record { at = here; how = inl (λ i. record { types = (keys ∙ ap (λ b. if b then old.types else old.types ++ row ∷ []) e) i; products = products i }) }
+    by true e = record {
+      at = here;
+      how =
+          inl (λ i. record { types = (keys ∙ ap (λ b. if b then old.types else old.types ++ row ∷ []) e) i; products = products i });
+    }
     by false e =
         let types = keys ∙ ap (λ b. if b then old.types else old.types ++ row ∷ []) e in
         let fresh = is_new row old.types e in
@@ -74,7 +105,8 @@ pub interned_as : (old old' new new' : Table) (row : Ty) (id : TyId) → old ≡
 interned_as old old' new new' row id e f h = subst (λ t. Interned t new' row id) e (subst (λ t. Interned old t row id) (sym f) h)
 
 -- a type that is added is new, and is put last
-pub added_new : (row : Ty) (rows rows' : List Ty) (added : Bool) → added ≡ true → added ≡ not (list_any (ghosts.eq row) rows) → rows' ≡ (if list_any (ghosts.eq row) rows then rows else rows ++ row ∷ [])
+pub added_new : (row : Ty) (rows rows' : List Ty) (added : Bool) → added ≡ true → added ≡ not (list_any (ghosts.eq row) rows)
+    → rows' ≡ (if list_any (ghosts.eq row) rows then rows else rows ++ row ∷ [])
     → ((n : ℕ) → slice_get rows n ≡ Some row → ⊥) × (rows' ≡ rows ++ row ∷ [])
 added_new row rows rows' added true_added is keys = by (list_any (ghosts.eq row) rows) refl
   where
@@ -83,7 +115,8 @@ added_new row rows rows' added true_added is keys = by (list_any (ghosts.eq row)
     by false e = (is_new row rows e, keys ∙ ap (λ b. if b then rows else rows ++ row ∷ []) e)
 
 -- the rows of a table with one more
-pub rows_push : (types : List Ty) (row : Ty) → AreRows (reverse types) → AllBelow (length types) (mentioned row) → ((n : ℕ) → slice_get types n ≡ Some row → ⊥) → AreRows (reverse (types ++ row ∷ []))
+pub rows_push : (types : List Ty) (row : Ty) → AreRows (reverse types) → AllBelow (length types) (mentioned row)
+    → ((n : ℕ) → slice_get types n ≡ Some row → ⊥) → AreRows (reverse (types ++ row ∷ []))
 rows_push types row good below fresh =
     subst AreRows (sym (reverse-push types row)) (
       subst (λ n. AllBelow n (mentioned row)) (sym (length-reverse types)) below,
@@ -91,7 +124,8 @@ rows_push types row good below fresh =
       good,
     )
 
-module _ (old new : Table) (row : Ty) (id : TyId) (good : AreRows (reverse old.types)) (below : AllBelow (length old.types) (mentioned row)) (done : Interned old new row id) where
+module _ (old new : Table) (row : Ty) (id : TyId) (good : AreRows (reverse old.types)) (below : AllBelow (length old.types) (mentioned row))
+    (done : Interned old new row id) where
   pub good_after : AreRows (reverse new.types)
   good_after =
       elim done.how [
@@ -111,7 +145,8 @@ module _ (old new : Table) (row : Ty) (id : TyId) (good : AreRows (reverse old.t
   type_stays other l =
       elim done.how [
         | inl e ↦ ap (λ t. type_of t other) e
-        | inr h ↦ ap (λ t. type_of t other) h.0 ∙ ap (λ rows. type_in rows other) (reverse-push old.types row) ∙ type_in-before row (reverse old.types) other (omega (arith, l, length-reverse old.types))
+        | inr h ↦ ap (λ t. type_of t other) h.0 ∙ ap (λ rows. type_in rows other) (reverse-push old.types row)
+            ∙ type_in-before row (reverse old.types) other (omega (arith, l, length-reverse old.types))
       ]
 
   same_row_type : type_of_row old row ≡ type_of_row new row
@@ -127,7 +162,8 @@ module _ (old new : Table) (row : Ty) (id : TyId) (good : AreRows (reverse old.t
   equal_ids other l = (λ e. one_number new good_after other id l within (e ∙ sym type_is), λ e. ap (type_of new) e ∙ type_is)
 
   pub once : (other : TyId) → row_at new other ≡ Some row → other ≡ id
-  once other at = one_number new good_after other id (slice_get_within new.types other.at row at) within (type_at new good_after other row at ∙ sym (type_at new good_after id row done.at))
+  once other at = one_number new good_after other id (slice_get_within new.types other.at row at) within (type_at new good_after other row at
+      ∙ sym (type_at new good_after id row done.at))
 
   pub there_before : HasId old id → new ≡ old
   there_before l = elim done.how [ inl e ↦ e | inr h ↦ absurd (omega (arith, h.1, l)) ]

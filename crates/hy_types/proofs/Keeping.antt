@@ -1,5 +1,6 @@
 -- What is true of every table stays true.
-use Rattle.std.proofs.Common.{◌≡◌, ◌==◌, ◌<◌, ◌+◌, ◌-◌, ◌^◌, ◌⊎◌, inl, inr, ℕ, Bool, true, false, cond, List, [], ◌∷◌, ◌++◌, length, Option, Some, None, slice_get, Contains, refl, sym, ap, subst, ◌∙◌, arith, length-append}
+use Rattle.std.proofs.Common.{◌≡◌, ◌==◌, ◌<◌, ◌+◌, ◌-◌, ◌^◌, ◌⊎◌, inl, inr, ℕ, Bool, true, false, cond, List, [], ◌∷◌, ◌++◌, length, Option, Some, None}
+use Rattle.std.proofs.Common.{slice_get, Contains, refl, sym, ap, subst, ◌∙◌, arith, length-append}
 use Rattle.std.specs.Map.{lookup}
 use Rattle.std.specs.Option.{option_map}
 use Rattle.std.proofs.lemmas.Option.{slice_get_within, slice_get-get_or}
@@ -38,6 +39,7 @@ module _ (types : List Ty) (products : List (ℕ × List TyId)) (row : Ty) where
 
   shapes_same : (r : Ty) → shape new r ≡ shape old r
   shapes_same ty.Int = refl
+  shapes_same (ty.Sized num) = refl
   shapes_same ty.Bool = refl
   shapes_same (ty.Tuple parts) = refl
   shapes_same (ty.Product declaration) = refl
@@ -49,13 +51,15 @@ module _ (types : List Ty) (products : List (ℕ × List TyId)) (row : Ty) where
 
   waits_push : (sizes more : List Size) (r : Ty) → Waits old sizes r → Waits new (sizes ++ more) r
   waits_push sizes more r (inl w) = inl w
-  waits_push sizes more r (inr (own, parts, shaped, (part, c, e))) = inr (own, parts, shapes_same r ∙ shaped, (part, c, slice_get-left sizes more part.at Pending e))
+  waits_push sizes more r (inr (own, parts, shaped, (part, c, e))) =
+      inr (own, parts, shapes_same r ∙ shaped, (part, c, slice_get-left sizes more part.at Pending e))
 
   waits_here : (sizes more : List Size) (r : Ty) → Waits new sizes r → Waits new (sizes ++ more) r
   waits_here sizes more r (inl w) = inl w
   waits_here sizes more r (inr (own, parts, shaped, (part, c, e))) = inr (own, parts, shaped, (part, c, slice_get-left sizes more part.at Pending e))
 
-  module _ (sizes : List Size) (kept : IsKept old sizes) (below : AllBelow (length types) (mentioned row)) (fresh : (n : ℕ) → slice_get types n ≡ Some row → ⊥) (room : length types < 2 ^ 32 - 1)
+  module _ (sizes : List Size) (kept : IsKept old sizes) (below : AllBelow (length types) (mentioned row)) (fresh : (n : ℕ) → slice_get types n ≡ Some row
+      → ⊥) (room : length types < 2 ^ 32 - 1)
       (size : Size) (known : (id : TyId) → AreRight new sizes → row_at new id ≡ Some row → IsRightFor new sizes id row size) where
     right_push : AreRight new sizes
     right_push id s e = right_kept old new keeps_push id s (kept.right id s e)
@@ -67,7 +71,8 @@ module _ (types : List Ty) (products : List (ℕ × List TyId)) (row : Ty) where
     kept_push = record {
       rows = rows_push types row kept.rows below fresh;
       few = omega (arith, length-append types (row ∷ []), room);
-      long = length-append sizes (size ∷ []) ∙ (let f : length sizes + 1 ≡ length types + 1 = ap (λ n. n + 1) kept.long in f) ∙ sym (length-append types (row ∷ []));
+      long = length-append sizes (size ∷ []) ∙ (let f : length sizes + 1 ≡ length types + 1 = ap (λ n. n + 1) kept.long in f)
+          ∙ sym (length-append types (row ∷ []));
       right = λ id s e.
           elim (slice_get-push sizes size id.at s e) [
             | inl g ↦ right_push id s g
@@ -77,12 +82,20 @@ module _ (types : List Ty) (products : List (ℕ × List TyId)) (row : Ty) where
           elim (slice_get-push sizes size id.at Pending e) [
             | inl g ↦
                 let l : id.at < length sizes = slice_get_within sizes id.at Pending g in
-                waits_push sizes (size ∷ []) r (kept.settled id r (elim (slice_get-push types row id.at r at) [ inl h ↦ h | inr h ↦ absurd (omega (arith, h.0, l, kept.long)) ]) g)
+                waits_push sizes (size ∷ []) r
+                (kept.settled id r (elim (slice_get-push types row id.at r at) [ inl h ↦ h | inr h ↦ absurd (omega (arith, h.0, l, kept.long)) ]) g)
             | inr g ↦
-                let same : row ≡ r = elim (slice_get-push types row id.at r at) [ inl h ↦ absurd (let l : id.at < length types = slice_get_within types id.at r h in omega (arith, l, g.0, kept.long)) | inr h ↦ h.1 ] in
-                subst (λ x. Waits new (sizes ++ size ∷ []) x) same (waits_here sizes (size ∷ []) row (subst (λ s. IsRightFor new sizes id row s) g.1 (known_here id g.0)))
+                let same : row ≡ r =
+                elim (slice_get-push types row id.at r at) [
+                  | inl h ↦
+                      absurd (let l : id.at < length types = slice_get_within types id.at r h in omega (arith, l, g.0, kept.long))
+                  | inr h ↦ h.1
+                ] in
+                subst (λ x. Waits new (sizes ++ size ∷ []) x) same
+                (waits_here sizes (size ∷ []) row (subst (λ s. IsRightFor new sizes id row s) g.1 (known_here id g.0)))
           ];
-      parts = λ product ids e. AllBelow-le (length types) (length (types ++ row ∷ [])) ids (omega (arith, length-append types (row ∷ []))) (kept.parts product ids e);
+      parts = λ product ids e. AllBelow-le (length types) (length (types ++ row ∷ [])) ids (omega (arith, length-append types (row ∷ [])))
+          (kept.parts product ids e);
     }
 
 -- one more product
@@ -103,7 +116,8 @@ module _ {X : Type 0} (test : ℕ → Bool) where
       by false t = inl (sym (ap (λ b. cond b (Some v) None) t) ∙ e)
   lookup-push (y ∷ es) key v x e = by (test y.0) refl (lookup-push es key v x)
     where
-      by : (b : Bool) → test y.0 ≡ b → (lookup test (es ++ (key, v) ∷ []) ≡ Some x → (lookup test es ≡ Some x) ⊎ (v ≡ x)) → (lookup test (y ∷ es) ≡ Some x) ⊎ (v ≡ x)
+      by : (b : Bool) → test y.0 ≡ b → (lookup test (es ++ (key, v) ∷ []) ≡ Some x → (lookup test es ≡ Some x) ⊎ (v ≡ x)) → (lookup test (y ∷ es) ≡ Some x)
+          ⊎ (v ≡ x)
       by true t rest = inl (ap (λ b. cond b (Some y.1) (lookup test es)) t ∙ sym (ap (λ b. cond b (Some y.1) (lookup test (es ++ (key, v) ∷ []))) t) ∙ e)
       by false t rest =
           elim (rest (sym (ap (λ b. cond b (Some y.1) (lookup test (es ++ (key, v) ∷ []))) t) ∙ e)) [
@@ -123,13 +137,15 @@ module _ (types : List Ty) (products : List (ℕ × List TyId)) (product : ℕ) 
 
   shapes_kept : (r : Ty) (own : ℕ) (ids : List TyId) → shape before r ≡ Some (own, ids) → shape after r ≡ Some (own, ids)
   shapes_kept ty.Int own ids e = e
+  shapes_kept (ty.Sized num) own ids e = e
   shapes_kept ty.Bool own ids e = e
   shapes_kept (ty.Tuple ps) own ids e = e
   shapes_kept (ty.Product declaration) own ids e = by (declared before declaration) refl
     where
       by : (o : Option (List TyId)) → declared before declaration ≡ o → shape after (ty.Product declaration) ≡ Some (own, ids)
       by None d = absurd (let bad : ◌≡◌ {A = Option (ℕ × List TyId)} None (Some (own, ids)) = sym (ap (option_map (λ (ps : List TyId). (0, ps))) d) ∙ e in cc)
-      by (Some found) d = ap (option_map (λ (ps : List TyId). (0, ps))) (declared_kept declaration found d) ∙ sym (ap (option_map (λ (ps : List TyId). (0, ps))) d) ∙ e
+      by (Some found) d = ap (option_map (λ (ps : List TyId). (0, ps))) (declared_kept declaration found d)
+          ∙ sym (ap (option_map (λ (ps : List TyId). (0, ps))) d) ∙ e
   shapes_kept (ty.Array element) own ids e = e
   shapes_kept (ty.Param place) own ids e = e
 

@@ -1,5 +1,6 @@
 -- Rows of a table and the types that they give.
-use Rattle.std.proofs.Common.{◌≡◌, ◌≢◌, ◌==◌, ◌<◌, ◌≤◌, ◌+◌, ◌⊎◌, inl, inr, ℕ, suc, zero, true, false, List, [], ◌∷◌, ◌++◌, length, reverse, if◌then◌else◌, Option, Some, None, slice_get, get_or, take, Contains, refl, sym, ap, subst, ◌∙◌, arith}
+use Rattle.std.proofs.Common.{◌≡◌, ◌≢◌, ◌==◌, ◌<◌, ◌≤◌, ◌+◌, ◌⊎◌, inl, inr, ℕ, suc, zero, true, false, List, [], ◌∷◌, ◌++◌, length, reverse, if◌then◌else◌}
+use Rattle.std.proofs.Common.{Option, Some, None, slice_get, get_or, take, Contains, refl, sym, ap, subst, ◌∙◌, arith}
 use Rattle.std.proofs.lemmas.Bool.Decides.{eqb_tells}
 use Rattle.std.proofs.lemmas.Option.{slice_get_within, slice_get_cases, slice_get-get_or}
 use Rattle.std.proofs.lemmas.List.{reverse-append, length-reverse}
@@ -19,8 +20,9 @@ pub slice_get-last : {X : Type 0} (xs : List X) (y : X) → slice_get (xs ++ y �
 slice_get-last [] y = refl
 slice_get-last (x ∷ xs) y = slice_get-last xs y
 
--- an element behind a push was there, or is the new one
-pub slice_get-push : {X : Type 0} (xs : List X) (y : X) (n : ℕ) (x : X) → slice_get (xs ++ y ∷ []) n ≡ Some x → (slice_get xs n ≡ Some x) ⊎ ((n ≡ length xs) × (y ≡ x))
+-- an element after a push was there, or is the new one
+pub slice_get-push : {X : Type 0} (xs : List X) (y : X) (n : ℕ) (x : X) → slice_get (xs ++ y ∷ []) n ≡ Some x → (slice_get xs n ≡ Some x)
+    ⊎ ((n ≡ length xs) × (y ≡ x))
 slice_get-push [] y zero x h = inr (refl, cc)
 slice_get-push [] y (suc n) x h = cc
 slice_get-push (z ∷ xs) y zero x h = inl h
@@ -92,12 +94,14 @@ row_mentions (last ∷ before) good n row e =
       | inr t ↦ row_mentions before good.2 n row (sym (ap (λ b. if b then Some last else row_in before n) t.0) ∙ e)
     ]
 
-pub same_plain : (f g : TyId → PlainType) (n : ℕ) (ids : List TyId) → ((id : TyId) → id.at < n → f id ≡ g id) → AllBelow n ids → plain_types f ids ≡ plain_types g ids
+pub same_plain : (f g : TyId → PlainType) (n : ℕ) (ids : List TyId) → ((id : TyId) → id.at < n → f id ≡ g id) → AllBelow n ids
+    → plain_types f ids ≡ plain_types g ids
 same_plain f g n [] same below = refl
 same_plain f g n (id ∷ ids) same below = λ i. More (same id below.0 i) (same_plain f g n ids same below.1 i)
 
 pub same_meant : (f g : TyId → PlainType) (n : ℕ) (row : Ty) → ((id : TyId) → id.at < n → f id ≡ g id) → AllBelow n (mentioned row) → meant f row ≡ meant g row
 same_meant f g n ty.Int same below = refl
+same_meant f g n (ty.Sized num) same below = refl
 same_meant f g n ty.Bool same below = refl
 same_meant f g n (ty.Tuple parts) same below = ap Tuple (same_plain f g n parts same below)
 same_meant f g n (ty.Product declaration) same below = refl
@@ -126,15 +130,19 @@ type_in-row (last ∷ before) good id row e =
       | inl t ↦
           let f : Some last ≡ Some row = sym (ap (λ b. if b then Some last else row_in before id.at) t.0) ∙ e in
           let same : last ≡ row = cc in
-          type_in-last last before id t.1 ∙ sym (same_meant (type_in (last ∷ before)) (type_in before) (length before) last (type_in-before last before) good.0) ∙ ap (meant (type_in (last ∷ before))) same
+          type_in-last last before id t.1
+          ∙ sym (same_meant (type_in (last ∷ before)) (type_in before) (length before) last (type_in-before last before) good.0)
+          ∙ ap (meant (type_in (last ∷ before))) same
       | inr t ↦
           let f : row_in before id.at ≡ Some row = sym (ap (λ b. if b then Some last else row_in before id.at) t.0) ∙ e in
           let l : id.at < length before = row_in_within before id.at row f in
           type_in-before last before id l ∙ type_in-row before good.2 id row f
-          ∙ sym (same_meant (type_in (last ∷ before)) (type_in before) (length before) row (type_in-before last before) (AllBelow-le id.at (length before) (mentioned row) (omega arith) (row_mentions before good.2 id.at row f)))
+          ∙ sym (same_meant (type_in (last ∷ before)) (type_in before) (length before) row (type_in-before last before)
+          (AllBelow-le id.at (length before) (mentioned row) (omega arith) (row_mentions before good.2 id.at row f)))
     ]
 
-one_plain : (f : TyId → PlainType) (n : ℕ) → ((a b : TyId) → a.at < n → b.at < n → f a ≡ f b → a ≡ b) → (xs ys : List TyId) → AllBelow n xs → AllBelow n ys → plain_types f xs ≡ plain_types f ys → xs ≡ ys
+one_plain : (f : TyId → PlainType) (n : ℕ) → ((a b : TyId) → a.at < n → b.at < n → f a ≡ f b → a ≡ b) → (xs ys : List TyId) → AllBelow n xs → AllBelow n ys
+    → plain_types f xs ≡ plain_types f ys → xs ≡ ys
 one_plain f n one [] [] p q e = refl
 one_plain f n one [] (y ∷ ys) p q e = cc
 one_plain f n one (x ∷ xs) [] p q e = cc
@@ -143,8 +151,10 @@ one_plain f n one (x ∷ xs) (y ∷ ys) p q e =
     let tail : plain_types f xs ≡ plain_types f ys = cc in
     λ i. one x y p.0 q.0 head i ∷ one_plain f n one xs ys p.1 q.1 tail i
 
-one_meant : (f : TyId → PlainType) (n : ℕ) → ((a b : TyId) → a.at < n → b.at < n → f a ≡ f b → a ≡ b) → (row other : Ty) → AllBelow n (mentioned row) → AllBelow n (mentioned other) → meant f row ≡ meant f other → row ≡ other
+one_meant : (f : TyId → PlainType) (n : ℕ) → ((a b : TyId) → a.at < n → b.at < n → f a ≡ f b → a ≡ b) → (row other : Ty) → AllBelow n (mentioned row)
+    → AllBelow n (mentioned other) → meant f row ≡ meant f other → row ≡ other
 one_meant f n one ty.Int ty.Int p q e = refl
+one_meant f n one (ty.Sized a) (ty.Sized b) p q e = let g : a ≡ b = cc in ap ty.Sized g
 one_meant f n one ty.Bool ty.Bool p q e = refl
 one_meant f n one (ty.Tuple xs) (ty.Tuple ys) p q e = let g : plain_types f xs ≡ plain_types f ys = cc in ap ty.Tuple (one_plain f n one xs ys p q g)
 one_meant f n one (ty.Product a) (ty.Product b) p q e = let g : a ≡ b = cc in ap ty.Product g
@@ -156,12 +166,16 @@ same_at : (a b : TyId) → a.at ≡ b.at → a ≡ b
 same_at a b e = λ i. record { at = e i }
 
 -- two numbers of one type are one, with one more row
-module _ (last : Ty) (before : List Ty) (good : AreRows (last ∷ before)) (one : (a b : TyId) → a.at < length before → b.at < length before → type_in before a ≡ type_in before b → a ≡ b) where
+module _ (last : Ty) (before : List Ty) (good : AreRows (last ∷ before)) (one : (a b : TyId) → a.at < length before → b.at < length before
+    → type_in before a ≡ type_in before b → a ≡ b) where
   fresh : (x y : TyId) → x.at ≡ length before → y.at < length before → type_in (last ∷ before) x ≡ type_in (last ∷ before) y → ⊥
   fresh x y p q h =
       let r = row_in_there before y.at q in
-      let f : meant (type_in before) last ≡ meant (type_in before) r.0 = sym (type_in-last last before x p) ∙ h ∙ type_in-before last before y q ∙ type_in-row before good.2 y r.0 r.1 in
-      let same : last ≡ r.0 = one_meant (type_in before) (length before) one last r.0 good.0 (AllBelow-le y.at (length before) (mentioned r.0) (omega arith) (row_mentions before good.2 y.at r.0 r.1)) f in
+      let f : meant (type_in before) last ≡ meant (type_in before) r.0 = sym (type_in-last last before x p) ∙ h ∙ type_in-before last before y q
+      ∙ type_in-row before good.2 y r.0 r.1 in
+      let same : last ≡ r.0 =
+      one_meant (type_in before) (length before) one last r.0 good.0
+      (AllBelow-le y.at (length before) (mentioned r.0) (omega arith) (row_mentions before good.2 y.at r.0 r.1)) f in
       good.1 y.at (r.1 ∙ ap Some (sym same))
 
   one_more : (a b : TyId) → a.at < length before + 1 → b.at < length before + 1 → type_in (last ∷ before) a ≡ type_in (last ∷ before) b → a ≡ b
@@ -172,7 +186,8 @@ module _ (last : Ty) (before : List Ty) (good : AreRows (last ∷ before)) (one 
       by (inl p) (inl q) = same_at a b (p.1 ∙ sym q.1)
       by (inl p) (inr q) = absurd (fresh a b p.1 (omega (arith, q.1)) e)
       by (inr p) (inl q) = absurd (fresh b a q.1 (omega (arith, p.1)) (sym e))
-      by (inr p) (inr q) = one a b (omega (arith, p.1)) (omega (arith, q.1)) (sym (type_in-before last before a (omega (arith, p.1))) ∙ e ∙ type_in-before last before b (omega (arith, q.1)))
+      by (inr p) (inr q) = one a b (omega (arith, p.1)) (omega (arith, q.1)) (sym (type_in-before last before a (omega (arith, p.1))) ∙ e
+          ∙ type_in-before last before b (omega (arith, q.1)))
 
 one_id : (rows : List Ty) → AreRows rows → (a b : TyId) → a.at < length rows → b.at < length rows → type_in rows a ≡ type_in rows b → a ≡ b
 one_id [] good a b l m e = absurd (omega arith)
@@ -187,7 +202,8 @@ module _ (table : Table) (good : AreRows (reverse table.types)) where
   mentions id row e = row_mentions (reverse table.types) good id.at row (sym (row_in_types table.types id.at) ∙ e)
 
   pub has_ids : (id : TyId) (row : Ty) → row_at table id ≡ Some row → AllBelow (length table.types) (mentioned row)
-  has_ids id row e = AllBelow-le id.at (length table.types) (mentioned row) (let l : id.at < length table.types = slice_get_within table.types id.at row e in omega arith) (mentions id row e)
+  has_ids id row e = AllBelow-le id.at (length table.types) (mentioned row) (let l : id.at < length table.types =
+      slice_get_within table.types id.at row e in omega arith) (mentions id row e)
 
   pub type_at : (id : TyId) (row : Ty) → row_at table id ≡ Some row → type_of table id ≡ type_of_row table row
   type_at id row e = type_in-row (reverse table.types) good id row (sym (row_in_types table.types id.at) ∙ e)

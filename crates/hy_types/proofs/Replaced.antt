@@ -1,5 +1,6 @@
 -- Types with others in place of their parameters, in a table that grows.
-use Rattle.std.proofs.Common.{◌≡◌, ◌<◌, ◌+◌, ℕ, List, [], ◌∷◌, ◌++◌, length, reverse, Some, take, get_or, refl, sym, ap, subst, ◌∙◌, arith, length-append, append_assoc}
+use Rattle.std.proofs.Common.{◌≡◌, ◌<◌, ◌+◌, ℕ, List, [], ◌∷◌, ◌++◌, length, reverse, Some, take, get_or, refl, sym, ap, subst, ◌∙◌, arith, length-append}
+use Rattle.std.proofs.Common.{append_assoc}
 use Rattle.std.proofs.lemmas.List.{length-reverse, reverse-append, append-nil, take_more}
 use Rattle.std.proofs.lemmas.Option.{slice_get_within, slice_get-get_or}
 use Rattle.hy_types.specs.declared.kinds.TyId.{TyId}
@@ -41,9 +42,15 @@ pub extends_itself : (table : Table) → Extends table table
 extends_itself table = record { more = []; types = sym (append-nil table.types); products = refl }
 
 pub extends_on : (a b c : Table) → Extends a b → Extends b c → Extends a c
-extends_on a b c p q = record { more = p.more ++ q.more; types = q.types ∙ ap (λ rows. rows ++ q.more) p.types ∙ append_assoc a.types p.more q.more; products = q.products ∙ p.products }
+extends_on a b c p q = record {
+  more = p.more ++ q.more;
+  types = q.types ∙ ap (λ rows. rows ++ q.more) p.types
+      ∙ append_assoc a.types p.more q.more;
+  products = q.products ∙ p.products;
+}
 
-plain_push : (f g : TyId → PlainType) (types : ℕ → PlainType) (xs ts : List TyId) (x t : TyId) → plain_types f xs ≡ substitute_all types (plain_types g ts) → f x ≡ substitute types (g t)
+plain_push : (f g : TyId → PlainType) (types : ℕ → PlainType) (xs ts : List TyId) (x t : TyId) → plain_types f xs ≡ substitute_all types (plain_types g ts)
+    → f x ≡ substitute types (g t)
     → plain_types f (xs ++ x ∷ []) ≡ substitute_all types (plain_types g (ts ++ t ∷ []))
 plain_push f g types [] [] x t e h = λ i. More (h i) (plain_types f [])
 plain_push f g types [] (u ∷ ts) x t e h = cc
@@ -74,16 +81,23 @@ module _ (old : Table) (args tys : List TyId) (owned : HasIds old tys) (given : 
     pub replacing_part : (d : TyId) → HasId now (get_or tys place d)
     replacing_part d = id_stays old now before.stays (get_or tys place d) (part_known d)
 
-    pub replacing_places : (d : TyId) (count : ℕ) → AllParametersBelow count (plain_types (type_of old) tys) → ParametersBelow count (type_of now (get_or tys place d))
-    replacing_places d count h = subst (ParametersBelow count) (sym (type_kept old now before.stays (get_or tys place d) (part_known d))) (parameters_at old count tys place (get_or tys place d) h (slice_get-get_or tys place d l))
+    pub replacing_places : (d : TyId) (count : ℕ) → AllParametersBelow count (plain_types (type_of old) tys)
+        → ParametersBelow count (type_of now (get_or tys place d))
+    replacing_places d count h =
+        subst (ParametersBelow count) (sym (type_kept old now before.stays (get_or tys place d) (part_known d)))
+        (parameters_at old count tys place (get_or tys place d) h (slice_get-get_or tys place d l))
 
-    pub replacing_more : (d : TyId) (new : Table) (id : TyId) → Extends now new → HasId new id → Replaces now args (get_or tys place d) new id → Replacing old args tys new (ids ++ id ∷ []) (place + 1)
+    pub replacing_more : (d : TyId) (new : Table) (id : TyId) → Extends now new → HasId new id → Replaces now args (get_or tys place d) new id
+        → Replacing old args tys new (ids ++ id ∷ []) (place + 1)
     replacing_more d new id ext has h = record {
       stays = extends_on old now new before.stays ext;
       known = below_push (length new.types) ids id (ids_stay now new ext ids before.known) has;
       replaced = λ types gives.
           let part = get_or tys place d in
-          let one : type_of new id ≡ substitute types (type_of old part) = h types (gives_kept old now before.stays args given types gives) ∙ ap (substitute types) (type_kept old now before.stays part (part_known d)) in
-          let all : plain_types (type_of new) ids ≡ substitute_all types (plain_types (type_of old) (take place tys)) = types_kept now new ext ids before.known ∙ before.replaced types gives in
-          plain_push (type_of new) (type_of old) types ids (take place tys) id part all one ∙ ap (λ ts. substitute_all types (plain_types (type_of old) ts)) (sym (take_more tys place d l));
+          let one : type_of new id ≡ substitute types (type_of old part) = h types (gives_kept old now before.stays args given types gives)
+          ∙ ap (substitute types) (type_kept old now before.stays part (part_known d)) in
+          let all : plain_types (type_of new) ids ≡ substitute_all types (plain_types (type_of old) (take place tys)) =
+          types_kept now new ext ids before.known ∙ before.replaced types gives in
+          plain_push (type_of new) (type_of old) types ids (take place tys) id part all one
+          ∙ ap (λ ts. substitute_all types (plain_types (type_of old) ts)) (sym (take_more tys place d l));
     }

@@ -1,5 +1,6 @@
 -- The pass that makes out words.
-use Rattle.std.proofs.Common.{◌≡◌, ◌<◌, ◌≤◌, ◌+◌, ◌⊎◌, inl, inr, ℕ, suc, zero, Bool, true, false, List, [], ◌∷◌, length, get_or, Some, slice_get, count_by, if◌then◌else◌, refl, sym, ap, subst, ◌∙◌, arith, true≢false}
+use Rattle.std.proofs.Common.{◌≡◌, ◌<◌, ◌≤◌, ◌+◌, ◌⊎◌, inl, inr, ℕ, suc, zero, Bool, true, false, List, [], ◌∷◌, length, get_or, Some, slice_get, count_by}
+use Rattle.std.proofs.Common.{if◌then◌else◌, refl, sym, ap, subst, ◌∙◌, arith, true≢false}
 use Rattle.std.proofs.Math.ListN.{set, length-set}
 use Rattle.std.proofs.lemmas.Bool.Decides.{leb_tells}
 use Rattle.std.proofs.lemmas.List.Sums.{sum_by-set}
@@ -18,7 +19,8 @@ pub record Passes (types : List Ty) (products : List (ℕ × List TyId)) (start 
   pub most : count_by is_pending sizes ≤ count_by is_pending start
   pub fewer : changed ≡ true → count_by is_pending sizes < count_by is_pending start
   pub same : changed ≡ false → sizes ≡ start
-  pub waits : changed ≡ false → (table : Table) → table.products ≡ products → table.types ≡ types → AreRight table start → (id : TyId) (row : Ty) → id.at < place → row_at table id ≡ Some row → slice_get sizes id.at ≡ Some Pending → Waits table sizes row
+  pub waits : changed ≡ false → (table : Table) → table.products ≡ products → table.types ≡ types → AreRight table start → (id : TyId) (row : Ty)
+      → id.at < place → row_at table id ≡ Some row → slice_get sizes id.at ≡ Some Pending → Waits table sizes row
 
 pending_is : (size : Size) → is_pending size ≡ true → size ≡ Pending
 pending_is Pending e = refl
@@ -26,7 +28,8 @@ pending_is Parameter e = absurd (true≢false (sym e))
 pending_is Large e = absurd (true≢false (sym e))
 pending_is (Words n) e = absurd (true≢false (sym e))
 
-right_for : (table : Table) (sizes : List Size) (id : TyId) (row : Ty) (size : Size) → is_pending size ≡ false → IsRightFor table sizes id row size → IsRight table id size
+right_for : (table : Table) (sizes : List Size) (id : TyId) (row : Ty) (size : Size) → is_pending size ≡ false → IsRightFor table sizes id row size
+    → IsRight table id size
 right_for table sizes id row Pending e h = absurd (true≢false e)
 right_for table sizes id row Parameter e h = h
 right_for table sizes id row Large e h = h
@@ -40,14 +43,16 @@ set_cases (z ∷ xs) zero (suc k) y x e = inr e
 set_cases (z ∷ xs) (suc i) zero y x e = inr e
 set_cases (z ∷ xs) (suc i) (suc k) y x e = elim (set_cases xs i k y x e) [ inl g ↦ inl (ap (λ n. suc n) g.0, g.1) | inr g ↦ inr g ]
 
-count_set : (xs : List Size) (i : ℕ) (y d : Size) → i < length xs → is_pending (get_or xs i d) ≡ true → is_pending y ≡ false → count_by is_pending (set xs i y) + 1 ≡ count_by is_pending xs
+count_set : (xs : List Size) (i : ℕ) (y d : Size) → i < length xs → is_pending (get_or xs i d) ≡ true → is_pending y ≡ false
+    → count_by is_pending (set xs i y) + 1 ≡ count_by is_pending xs
 count_set xs i y d l p q =
     let s = sum_by-set (λ x. let n : ℕ = if is_pending x then 1 else 0 in n) xs i y d l in
     let a : ◌≡◌ {A = ℕ} (if is_pending (get_or xs i d) then 1 else 0) 1 = ap (λ b. let n : ℕ = if b then 1 else 0 in n) p in
     let b : ◌≡◌ {A = ℕ} (if is_pending y then 1 else 0) 0 = ap (λ b. let n : ℕ = if b then 1 else 0 in n) q in
     omega (arith, s, a, b)
 
-module _ (types : List Ty) (products : List (ℕ × List TyId)) (start sizes : List Size) (changed : Bool) (place : ℕ) (before : Passes types products start sizes changed place) where
+module _ (types : List Ty) (products : List (ℕ × List TyId)) (start sizes : List Size) (changed : Bool) (place : ℕ)
+    (before : Passes types products start sizes changed place) where
   -- a row of which something is known
   pub passed_over : (e : Size) → is_pending (get_or sizes place e) ≡ false → Passes types products start sizes changed (place + 1)
   passed_over e known = record {
@@ -60,13 +65,15 @@ module _ (types : List Ty) (products : List (ℕ × List TyId)) (start sizes : L
         elim (leb_tells (suc id.at) place) [
           | inl t ↦ before.waits no table ps ts right id row (omega (arith, t.1)) at pending
           | inr t ↦
-              let here : slice_get sizes place ≡ Some Pending = subst (λ n. slice_get sizes n ≡ Some Pending) (let f : id.at ≡ place = omega (arith, t.1) in f) pending in
+              let here : slice_get sizes place ≡ Some Pending =
+              subst (λ n. slice_get sizes n ≡ Some Pending) (let f : id.at ≡ place = omega (arith, t.1) in f) pending in
               absurd (true≢false (ap is_pending (sym (get_or_from_slice_get sizes place Pending e here)) ∙ known))
         ];
   }
 
   module _ (row : Ty) (size : Size) (at : slice_get types place ≡ Some row)
-      (known : (table : Table) (id : TyId) → table.products ≡ products → AreRight table sizes → row_at table id ≡ Some row → IsRightFor table sizes id row size) where
+      (known : (table : Table) (id : TyId) → table.products ≡ products → AreRight table sizes → row_at table id ≡ Some row
+      → IsRightFor table sizes id row size) where
     -- a row of which nothing can be known yet
     pub left_open : is_pending size ≡ true → Passes types products start sizes changed (place + 1)
     left_open still = record {
@@ -79,15 +86,19 @@ module _ (types : List Ty) (products : List (ℕ × List TyId)) (start sizes : L
           elim (leb_tells (suc id.at) place) [
             | inl t ↦ before.waits no table ps ts right id row' (omega (arith, t.1)) at' pending
             | inr t ↦
-                let there : slice_get types place ≡ Some row' = subst (λ n. slice_get types n ≡ Some row') (let f : id.at ≡ place = omega (arith, t.1) in f) (ap (λ ts. slice_get ts id.at) (sym ts) ∙ at') in
+                let there : slice_get types place ≡ Some row' =
+                subst (λ n. slice_get types n ≡ Some row') (let f : id.at ≡ place = omega (arith, t.1) in f) (ap (λ ts. slice_get ts id.at) (sym ts)
+                ∙ at') in
                 let rows : Some row' ≡ Some row = sym there ∙ at in
                 let same : row' ≡ row = cc in
-                subst (λ r. Waits table sizes r) (sym same) (subst (λ s. IsRightFor table sizes id row s) (pending_is size still) (known table id ps (before.right table ps ts right) (at' ∙ ap Some same)))
+                subst (λ r. Waits table sizes r) (sym same) (subst (λ s. IsRightFor table sizes id row s) (pending_is size still)
+                (known table id ps (before.right table ps ts right) (at' ∙ ap Some same)))
           ];
     }
 
     -- a row of which something is known now
-    pub made_out : (e : Size) → place < length sizes → is_pending (get_or sizes place e) ≡ true → is_pending size ≡ false → Passes types products start (set sizes place size) true (place + 1)
+    pub made_out : (e : Size) → place < length sizes → is_pending (get_or sizes place e) ≡ true → is_pending size ≡ false
+        → Passes types products start (set sizes place size) true (place + 1)
     made_out e l was is = record {
       long = length-set sizes place size ∙ before.long;
       right = λ table ps ts right id s got.
@@ -104,6 +115,7 @@ module _ (types : List Ty) (products : List (ℕ × List TyId)) (start sizes : L
     }
 
 -- a record of the same pass, at what the variables are
-pub passes_as : (types : List Ty) (products : List (ℕ × List TyId)) (start sizes sizes' : List Size) (changed changed' : Bool) (place : ℕ) → sizes' ≡ sizes → changed' ≡ changed → Passes types products start sizes changed place → Passes types products start sizes' changed' place
+pub passes_as : (types : List Ty) (products : List (ℕ × List TyId)) (start sizes sizes' : List Size) (changed changed' : Bool) (place : ℕ) → sizes' ≡ sizes
+    → changed' ≡ changed → Passes types products start sizes changed place → Passes types products start sizes' changed' place
 passes_as types products start sizes sizes' changed changed' place e f h =
     subst (λ s. Passes types products start s changed' place) (sym e) (subst (λ b. Passes types products start sizes b place) (sym f) h)

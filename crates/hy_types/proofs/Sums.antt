@@ -1,16 +1,19 @@
 -- Words as sums over parts, and why there are none.
-use Rattle.std.proofs.Common.{◌≡◌, ◌≤◌, ◌+◌, ◌⊎◌, inl, inr, ℕ, suc, zero, List, [], ◌∷◌, ◌++◌, take, Option, Some, None, refl, sym, ap, subst, ◌∙◌, arith, Contains, zero-add, add-zero, add_assoc}
+use Rattle.std.proofs.Common.{◌≡◌, ◌≤◌, ◌+◌, ◌⊎◌, inl, inr, ℕ, suc, zero, List, [], ◌∷◌, ◌++◌, take, Option, Some, None, refl, sym, ap, subst, ◌∙◌, arith}
+use Rattle.std.proofs.Common.{Contains, zero-add, add-zero, add_assoc}
 use Rattle.hy_types.specs.declared.kinds.TyId.{TyId}
 use Rattle.hy_types.specs.declared.kinds.Ty.{Ty}
 use Rattle.hy_types.specs.declared.kinds.Ty.TheVariants as ty
 use Rattle.hy_types.specs.Types.{Table, row_at}
-use Rattle.hy_types.specs.Words.{shape, HasShape, Takes, of, TakeTogether, none, more, LiesIn, itself, in_part, HoldsParameter, IsEndless, HasWords, HasNoWords}
+use Rattle.hy_types.specs.Words.{shape, HasShape, Takes, of, TakeTogether, none, more, LiesIn, itself}
+use Rattle.hy_types.specs.Words.{in_part, HoldsParameter, IsEndless, HasWords, HasNoWords}
 
 pub cons_cases : {X : Type 0} (x : X) (xs : List X) (y : X) → Contains (x ∷ xs) y → (x ≡ y) ⊎ Contains xs y
 cons_cases x xs y (zero, l, e) = inl e
 cons_cases x xs y (suc k, l, e) = inr (k, omega arith, e)
 
-pub one_shape : (table : Table) (id : TyId) (own other : ℕ) (parts parts' : List TyId) → HasShape table id own parts → HasShape table id other parts' → (own ≡ other) × (parts ≡ parts')
+pub one_shape : (table : Table) (id : TyId) (own other : ℕ) (parts parts' : List TyId) → HasShape table id own parts → HasShape table id other parts'
+    → (own ≡ other) × (parts ≡ parts')
 one_shape table id own other parts parts' h g =
     let rows : Some h.0 ≡ Some g.0 = sym h.1 ∙ g.1 in
     let same : h.0 ≡ g.0 = cc in
@@ -88,7 +91,8 @@ module _ (table : Table) where
       elim (cons_cases x xs id c) [ inl e ↦ (first, subst (λ i. Takes table i first) e t) | inr d ↦ sum_part ts id d ]
 
   -- a type with words holds no parameter
-  pub no_parameter_at : {depth : ℕ} {inner id : TyId} → LiesIn table depth inner id → (place : ℕ) → row_at table inner ≡ Some (ty.Param place) → (n : ℕ) → Takes table id n → ⊥
+  pub no_parameter_at : {depth : ℕ} {inner id : TyId} → LiesIn table depth inner id → (place : ℕ) → row_at table inner ≡ Some (ty.Param place) → (n : ℕ)
+      → Takes table id n → ⊥
   no_parameter_at (itself {id = id}) place row n t =
       let g = made t in
       let rows : Some g.shaped.0 ≡ Some (ty.Param place) = sym g.shaped.1 ∙ row in
@@ -104,7 +108,8 @@ module _ (table : Table) where
   pub no_parameter : (id : TyId) (n : ℕ) → Takes table id n → HoldsParameter table id → ⊥
   no_parameter id n t h = no_parameter_at h.3 h.1 h.4 n t
 
-  lies_at : {depth : ℕ} {inner id : TyId} → LiesIn table depth inner id → (own : ℕ) (parts : List TyId) (d : ℕ) → HasShape table id own parts → suc d ≤ depth → (part : TyId) × Contains parts part × (k : ℕ) × (d ≤ k) × LiesIn table k inner part
+  lies_at : {depth : ℕ} {inner id : TyId} → LiesIn table depth inner id → (own : ℕ) (parts : List TyId) (d : ℕ) → HasShape table id own parts
+      → suc d ≤ depth → (part : TyId) × Contains parts part × (k : ℕ) × (d ≤ k) × LiesIn table k inner part
   lies_at itself own parts d h l = absurd (omega arith)
   lies_at (in_part {depth = depth} {own = own'} {part = part} {outer = id} {parts = parts'} h' c lies) own parts d h l =
       let s = one_shape table id own' own parts' parts h' h in
@@ -117,7 +122,8 @@ module _ (table : Table) where
         let g = heights t in
         (suc g.0, λ k inner l lies. let p = lies_at lies own parts g.0 h l in g.1 p.0 p.1 p.2 inner p.3 p.4)
 
-    heights : {ids : List TyId} {n : ℕ} → TakeTogether table ids n → (d : ℕ) × ((part : TyId) → Contains ids part → (k : ℕ) (inner : TyId) → d ≤ k → LiesIn table k inner part → ⊥)
+    heights : {ids : List TyId} {n : ℕ} → TakeTogether table ids n → (d : ℕ)
+        × ((part : TyId) → Contains ids part → (k : ℕ) (inner : TyId) → d ≤ k → LiesIn table k inner part → ⊥)
     heights none = (0, λ part c k inner l lies. absurd (omega (arith, c.1)))
     heights (more {id = x} {ids = xs} t ts) =
         let g = height t in

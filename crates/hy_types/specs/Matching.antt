@@ -1,12 +1,13 @@
 -- Types in place of parameters.
 use Rattle.std.specs.Prelude.{◌≡◌, ◌<◌, ◌↔◌, ◌==◌, ℕ, Bool as Truth, true, false, List, Option, Some, None, slice_get, slice_set}
 use Rattle.hy_types.specs.declared.kinds.TyId.{TyId}
-use Rattle.hy_types.specs.Types.{Table, HasId, type_of, plain_types, PlainType, PlainTypes, Int, Bool, Tuple, Product, Array, Param, End, More}
+use Rattle.hy_types.specs.Types.{Table, HasId, type_of, plain_types, PlainType, PlainTypes, Int, Sized, Bool, Tuple, Product, Array, Param, End, More}
 
 -- a type with types in place of its parameters
 abbrev mutual
   pub substitute : (ℕ → PlainType) → PlainType → PlainType
   substitute types Int = Int
+  substitute types (Sized num) = Sized num
   substitute types Bool = Bool
   substitute types (Tuple parts) = Tuple (substitute_all types parts)
   substitute types (Product declaration) = Product declaration
@@ -21,6 +22,7 @@ abbrev mutual
 abbrev mutual
   pub ParametersBelow : ℕ → PlainType → Type 0
   ParametersBelow count Int = Unit {0}
+  ParametersBelow count (Sized num) = Unit {0}
   ParametersBelow count Bool = Unit {0}
   ParametersBelow count (Tuple parts) = AllParametersBelow count parts
   ParametersBelow count (Product declaration) = Unit {0}
@@ -59,8 +61,10 @@ Matches table wanted given old false new = (types : ℕ → PlainType) → Makes
 
 -- the same of lists of types, place by place
 abbrev pub MatchesAll : Table → List TyId → List TyId → List (Option TyId) → Truth → List (Option TyId) → Type 0
-MatchesAll table wanted given old true new = (types : ℕ → PlainType) → Agrees table new types ↔ (Agrees table old types × (substitute_all types (plain_types (type_of table) wanted) ≡ plain_types (type_of table) given))
-MatchesAll table wanted given old false new = (types : ℕ → PlainType) → Agrees table old types → substitute_all types (plain_types (type_of table) wanted) ≡ plain_types (type_of table) given → ⊥
+MatchesAll table wanted given old true new = (types : ℕ → PlainType)
+    → Agrees table new types ↔ (Agrees table old types × (substitute_all types (plain_types (type_of table) wanted) ≡ plain_types (type_of table) given))
+MatchesAll table wanted given old false new = (types : ℕ → PlainType) → Agrees table old types
+    → substitute_all types (plain_types (type_of table) wanted) ≡ plain_types (type_of table) given → ⊥
 
 -- one place is filled with a type, or has one that is the same or another
 abbrev pub Fills : ℕ → TyId → Option TyId → Truth → List (Option TyId) → List (Option TyId) → Type 0
@@ -73,4 +77,5 @@ Replaces old args ty new id = (types : ℕ → PlainType) → Gives old args typ
 
 -- the same of lists of types, place by place
 abbrev pub ReplacesAll : Table → List TyId → List TyId → Table → List TyId → Type 0
-ReplacesAll old args tys new ids = (types : ℕ → PlainType) → Gives old args types → plain_types (type_of new) ids ≡ substitute_all types (plain_types (type_of old) tys)
+ReplacesAll old args tys new ids = (types : ℕ → PlainType) → Gives old args types
+    → plain_types (type_of new) ids ≡ substitute_all types (plain_types (type_of old) tys)

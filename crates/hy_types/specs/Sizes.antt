@@ -54,7 +54,8 @@ IsRightTogether table sizes ids (Words words) = TakeTogether table ids words × 
 
 -- a row waits for the declaration of a product, or for one of its parts
 abbrev pub Waits : Table → List Size → Ty → Type 0
-Waits table sizes row = ((declaration : ℕ) × (row ≡ ty.Product declaration) × (declared table declaration ≡ None)) ⊎ ((own : ℕ) × (parts : List TyId) × (shape table row ≡ Some (own, parts)) × SomeWaits sizes parts)
+Waits table sizes row = ((declaration : ℕ) × (row ≡ ty.Product declaration) × (declared table declaration ≡ None))
+    ⊎ ((own : ℕ) × (parts : List TyId) × (shape table row ≡ Some (own, parts)) × SomeWaits sizes parts)
 
 -- what is known of a row is right, and nothing only where it waits
 abbrev pub IsRightFor : Table → List Size → TyId → Ty → Size → Type 0

@@ -1,6 +1,7 @@
 -- Tables of types, and the types that their numbers stand for.
 use Rattle.std.specs.Prelude.{◌≡◌, ◌==◌, ◌<◌, ◌++◌, ℕ, List, [], ◌∷◌, length, reverse, if◌then◌else◌, Option, slice_get}
 use Rattle.std.specs.Map.{lookup}
+use Rattle.hy_base.specs.declared.numbers.Num.{Num}
 use Rattle.hy_types.specs.declared.kinds.TyId.{TyId}
 use Rattle.hy_types.specs.declared.kinds.Ty.{Ty}
 use Rattle.hy_types.specs.declared.kinds.Ty.TheVariants as ty
@@ -35,6 +36,7 @@ declared table product = lookup (λ other. product == other) table.products
 mutual
   pub data PlainType : Type 0 where
     Int : PlainType
+    Sized : Num → PlainType
     Bool : PlainType
     Tuple : (parts : PlainTypes) → PlainType
     Product : (declaration : ℕ) → PlainType
@@ -52,6 +54,7 @@ plain_types plain (id ∷ ids) = More (plain id) (plain_types plain ids)
 -- the type of a row, where each number stands for such a type
 abbrev pub meant : (TyId → PlainType) → Ty → PlainType
 meant plain ty.Int = Int
+meant plain (ty.Sized num) = Sized num
 meant plain ty.Bool = Bool
 meant plain (ty.Tuple parts) = Tuple (plain_types plain parts)
 meant plain (ty.Product declaration) = Product declaration
@@ -74,6 +77,7 @@ type_of_row table row = meant (type_of table) row
 -- the numbers that a row speaks of
 abbrev pub mentioned : Ty → List TyId
 mentioned ty.Int = []
+mentioned (ty.Sized num) = []
 mentioned ty.Bool = []
 mentioned (ty.Tuple parts) = parts
 mentioned (ty.Product declaration) = []

@@ -9,6 +9,7 @@ use Rattle.hy_types.specs.Types.{Table, row_at, declared}
 -- the words of a type's own and its parts outside arrays. A parameter has none, and a product has them once it is declared.
 abbrev pub shape : Table → Ty → Option (ℕ × List TyId)
 shape table ty.Int = Some (1, [])
+shape table (ty.Sized num) = Some (1, [])
 shape table ty.Bool = Some (1, [])
 shape table (ty.Tuple parts) = Some (0, parts)
 shape table (ty.Product declaration) = option_map (λ parts. (0, parts)) (declared table declaration)
@@ -36,7 +37,8 @@ module _ (table : Table) where
   -- a type lies in another at this depth of parts, outside arrays
   pub data LiesIn : ℕ → TyId → TyId → Type 0 where
     itself : {id : TyId} → LiesIn 0 id id
-    in_part : {depth own : ℕ} {inner part outer : TyId} {parts : List TyId} → HasShape table outer own parts → Contains parts part → LiesIn depth inner part → LiesIn (suc depth) inner outer
+    in_part : {depth own : ℕ} {inner part outer : TyId} {parts : List TyId} → HasShape table outer own parts → Contains parts part → LiesIn depth inner part
+        → LiesIn (suc depth) inner outer
 
   -- a type holds a parameter outside arrays
   abbrev pub HoldsParameter : TyId → Type 0
@@ -52,7 +54,8 @@ module _ (table : Table) where
 
   -- each product that a type holds outside arrays was declared
   abbrev pub AreDeclared : TyId → Type 0
-  AreDeclared id = (depth declaration : ℕ) (inner : TyId) → LiesIn depth inner id → row_at table inner ≡ Some (ty.Product declaration) → IsSome (declared table declaration)
+  AreDeclared id = (depth declaration : ℕ) (inner : TyId) → LiesIn depth inner id → row_at table inner ≡ Some (ty.Product declaration)
+      → IsSome (declared table declaration)
 
   -- the words of a type, where it has them: at most 4,096
   abbrev pub HasWords : TyId → ℕ → Type 0

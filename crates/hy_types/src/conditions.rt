@@ -35,7 +35,7 @@ impl TyTable {
         match ty {
             Ty::Tuple(parts) => self.has_all(parts.as_slice()),
             Ty::Array(element) => self.has(*element),
-            Ty::Int | Ty::Bool | Ty::Product(_) | Ty::Param(_) => true,
+            Ty::Int | Ty::Sized(_) | Ty::Bool | Ty::Product(_) | Ty::Param(_) => true,
         }
     }
 
@@ -60,7 +60,7 @@ impl TyTable {
         ensures { Decides result (ParametersBelow count (type_of self.now id)) }
     {
         match self.get(id) {
-            Ty::Int | Ty::Bool | Ty::Product(_) => true,
+            Ty::Int | Ty::Sized(_) | Ty::Bool | Ty::Product(_) => true,
             Ty::Param(place) => *place < count,
             Ty::Array(element) => self.is_below(*element, count),
             Ty::Tuple(parts) => self.all_below(parts.as_slice(), count),

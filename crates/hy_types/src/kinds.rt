@@ -1,5 +1,6 @@
 // What a type is, with other types in it by their numbers.
 use crate::list::TyList;
+use hy_base::Num;
 use std::alloc::AllocError;
 
 /// A type of a table, by the place of its first use in it, from 0.
@@ -13,6 +14,8 @@ pub struct TyId {
 pub enum Ty {
     /// A signed number of 64 bits.
     Int,
+    /// A number of this sized integer type.
+    Sized(Num),
     /// A truth value.
     Bool,
     /// A tuple of these parts, in order.
@@ -33,6 +36,7 @@ impl Clone for Ty {
     fn clone(&self) -> Result<Ty, AllocError> {
         match self {
             Ty::Int => Ok(Ty::Int),
+            Ty::Sized(num) => Ok(Ty::Sized(*num)),
             Ty::Bool => Ok(Ty::Bool),
             Ty::Tuple(parts) => {
                 let parts = parts.clone()?;

@@ -103,15 +103,17 @@ impl TyTable {
     {
         let other = self.get(given);
         match self.get(wanted) {
-            Ty::Int | Ty::Bool | Ty::Product(_) => wanted == given,
+            Ty::Int | Ty::Sized(_) | Ty::Bool | Ty::Product(_) => wanted == given,
             Ty::Param(place) => found.fill(*place, given),
             Ty::Array(element) => match other {
                 Ty::Array(other) => self.extend(*element, *other, found),
-                Ty::Int | Ty::Bool | Ty::Tuple(_) | Ty::Product(_) | Ty::Param(_) => false,
+                Ty::Int | Ty::Sized(_) | Ty::Bool | Ty::Tuple(_) | Ty::Product(_) | Ty::Param(_) =>
+                    false,
             },
             Ty::Tuple(parts) => match other {
                 Ty::Tuple(others) => self.extend_all(parts.as_slice(), others.as_slice(), found),
-                Ty::Int | Ty::Bool | Ty::Array(_) | Ty::Product(_) | Ty::Param(_) => false,
+                Ty::Int | Ty::Sized(_) | Ty::Bool | Ty::Array(_) | Ty::Product(_) | Ty::Param(_) =>
+                    false,
             },
         }
     }

@@ -20,7 +20,7 @@ impl TyTable {
         ensures stays { Extends self.old self.new }
     {
         match self.get(ty) {
-            Ty::Int | Ty::Bool | Ty::Product(_) => Ok(ty),
+            Ty::Int | Ty::Sized(_) | Ty::Bool | Ty::Product(_) => Ok(ty),
             Ty::Param(place) => Ok(args.as_slice()[*place as usize]),
             Ty::Array(element) => {
                 let element = *element;

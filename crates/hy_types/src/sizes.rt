@@ -75,10 +75,12 @@ pub fn total(sizes: &[Size], parts: &[TyId]) -> Size
 pub fn size_of(sizes: &[Size], products: &IndexMap<u32, TyList>, row: &Ty) -> Size
     requires mentioned { AllBelow (length sizes.now) (mentioned row.now) }
     requires parts { (product : ℕ) (ids : List TyId) → lookup (λ other. product == other) products.now.entries ≡ Some ids → AllBelow (length sizes.now) ids }
-    ensures { (table : Table) (id : TyId) → table.products ≡ products.now.entries → AreRight table sizes.now → row_at table id ≡ Some row.now → IsRightFor table sizes.now id row.now result }
+    ensures { (table : Table) (id : TyId) → table.products ≡ products.now.entries → AreRight table sizes.now → row_at table id ≡ Some row.now
+        → IsRightFor table sizes.now id row.now result }
 {
     match row {
         Ty::Int | Ty::Bool => Size::Words(1),
+        Ty::Sized(_) => Size::Words(1),
         Ty::Array(_) => Size::Words(2),
         Ty::Param(_) => Size::Parameter,
         Ty::Tuple(parts) => total(sizes, parts.as_slice()),
@@ -96,7 +98,8 @@ fn settle_once(sizes: &mut [Size], products: &IndexMap<u32, TyList>, types: &[Ty
     requires parts { (product : ℕ) (ids : List TyId) → lookup (λ other. product == other) products.now.entries ≡ Some ids → AllBelow (length types.now) ids }
     ensures right { (table : Table) → table.products ≡ products.now.entries → table.types ≡ types.now → AreRight table sizes.old → AreRight table sizes.new }
     ensures fewer { result ≡ true → count_by is_pending sizes.new < count_by is_pending sizes.old }
-    ensures settled { result ≡ false → (table : Table) → table.products ≡ products.now.entries → table.types ≡ types.now → AreRight table sizes.old → AreSettled table sizes.new }
+    ensures settled { result ≡ false → (table : Table) → table.products ≡ products.now.entries → table.types ≡ types.now → AreRight table sizes.old
+        → AreSettled table sizes.new }
 {
     let mut changed = false;
     for place in 0..types.len() {
@@ -116,7 +119,8 @@ pub fn settle(sizes: &mut [Size], products: &IndexMap<u32, TyList>, types: &[Ty]
     requires long { length sizes.old ≡ length types.now }
     requires mentioned { (row : Ty) → Contains types.now row → AllBelow (length types.now) (mentioned row) }
     requires parts { (product : ℕ) (ids : List TyId) → lookup (λ other. product == other) products.now.entries ≡ Some ids → AllBelow (length types.now) ids }
-    ensures { (table : Table) → table.products ≡ products.now.entries → table.types ≡ types.now → AreRight table sizes.old → AreRight table sizes.new × AreSettled table sizes.new }
+    ensures { (table : Table) → table.products ≡ products.now.entries → table.types ≡ types.now → AreRight table sizes.old → AreRight table sizes.new
+        × AreSettled table sizes.new }
 {
     loop {
         if !settle_once(sizes, products, types) {

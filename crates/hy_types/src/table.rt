@@ -1,7 +1,8 @@
 // Tables of types.
 ghost use Rattle.std.specs.Bool.{Decides};
 ghost use Rattle.std.specs.Map.{lookup};
-ghost use Rattle.std.specs.Prelude.{◌≡◌, ◌<◌, ◌↔◌, ◌⊎◌, ◌++◌, ◌∷◌, [], ℕ, List, Some, None, IsSome, IsNone, IfOk, IfSome, OnOk, OnErr, length, take, slice_get};
+ghost use Rattle.std.specs.Prelude.{◌≡◌, ◌<◌, ◌↔◌, ◌⊎◌, ◌++◌, ◌∷◌, [], ℕ, List, Some, None, IsSome};
+ghost use Rattle.std.specs.Prelude.{IsNone, IfOk, IfSome, OnOk, OnErr, length, take, slice_get};
 ghost use Rattle.hy_types.specs.Types.{Table, AllBelow, HasId, HasIds, row_at, declared, mentioned, type_of, type_of_row, Extends};
 ghost use Rattle.hy_types.specs.Words.{AreDeclared, HasWords, HasNoWords, TakeTogether, parts_at};
 ghost use Rattle.hy_types.specs.declared.kinds.TyId.{TyId};
@@ -134,7 +135,7 @@ impl TyTable {
                 Some(parts) => parts.as_slice(),
                 None => &[],
             },
-            Ty::Int | Ty::Bool | Ty::Array(_) | Ty::Param(_) => &[],
+            Ty::Int | Ty::Sized(_) | Ty::Bool | Ty::Array(_) | Ty::Param(_) => &[],
         }
     }
 

@@ -5,7 +5,7 @@ use Rattle.std.proofs.lemmas.Bool.Decides.{nat_tests}
 use Rattle.hy_base.specs.Lines.{digits}
 use Rattle.hy_words.specs.declared.words.Options.{Options}
 use Rattle.hy_words.specs.declared.words.TheConstants.{TURNS, MOST_TURNS}
-use Rattle.hy_words.specs.Commands.{is_report, few, number_of, turns_of, with_turns, options_of}
+use Rattle.hy_words.specs.Commands.{is_report, allowed_turns, number_of, turns_of, with_turns, options_of}
 
 abbrev IsFew : Option ℕ → Type 0
 IsFew None = Unit {0}
@@ -19,12 +19,12 @@ tested : (n : ℕ) (b : Bool) → nat_le n MOST_TURNS ≡ b → IsFew (if b then
 tested n true h = grind (arith, nat_tests)
 tested n false h = tt
 
-few_is : (o : Option ℕ) → IsFew (few o)
+few_is : (o : Option ℕ) → IsFew (allowed_turns o)
 few_is None = tt
 few_is (Some n) = tested n (nat_le n MOST_TURNS) refl
 
 number_few : (word : List ℕ) → IsFew (number_of word)
-number_few word = elim (nat_le (length word) 10) as (λ b. IsFew (if b then few (digits word) else None)) [ true ↦ few_is (digits word) | false ↦ tt ]
+number_few word = elim (nat_le (length word) 10) as (λ b. IsFew (if b then allowed_turns (digits word) else None)) [ true ↦ few_is (digits word) | false ↦ tt ]
 
 turns_few : (name number : List ℕ) → IsFew (turns_of name number)
 turns_few name number = elim (bytes_eq name (codes "--turns")) as (λ b. IsFew (if b then number_of number else None)) [ true ↦ number_few number | false ↦ tt ]
@@ -46,8 +46,10 @@ of_few [] = usual
 of_few (report ∷ []) = when (is_report report) (with_turns (Some TURNS) true) usual
 of_few (name ∷ number ∷ []) = options_few (turns_of name number) false (turns_few name number)
 of_few (first ∷ second ∷ third ∷ []) =
-    let last : AreFew (if is_report third then with_turns (turns_of first second) true else None) = when (is_report third) (with_turns (turns_of first second) true) (options_few (turns_of first second) true (turns_few first second)) in
-    elim (is_report first) as (λ b. AreFew (if b then with_turns (turns_of second third) true else (if is_report third then with_turns (turns_of first second) true else None)))
+    let last : AreFew (if is_report third then with_turns (turns_of first second) true else None) =
+    when (is_report third) (with_turns (turns_of first second) true) (options_few (turns_of first second) true (turns_few first second)) in
+    elim (is_report first) as (λ b.
+    AreFew (if b then with_turns (turns_of second third) true else (if is_report third then with_turns (turns_of first second) true else None)))
     [ true ↦ options_few (turns_of second third) true (turns_few second third) | false ↦ last ]
 of_few (first ∷ second ∷ third ∷ fourth ∷ words) = tt
 

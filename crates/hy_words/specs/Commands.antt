@@ -14,15 +14,15 @@ abbrev pub is_report : List ℕ → Bool
 is_report word = bytes_eq word (codes "--report")
 
 -- a number of turns, if there is one that is not too large
-abbrev pub few : Option ℕ → Option ℕ
-few None = None
-few (Some n) = if nat_le n MOST_TURNS then Some n else None
+abbrev pub allowed_turns : Option ℕ → Option ℕ
+allowed_turns None = None
+allowed_turns (Some n) = if nat_le n MOST_TURNS then Some n else None
 
 -- the number of turns that a word writes: it has 1 to 10 digits
 abbrev pub number_of : List ℕ → Option ℕ
-number_of word = if nat_le (length word) 10 then few (digits word) else None
+number_of word = if nat_le (length word) 10 then allowed_turns (digits word) else None
 
--- the same behind the name of the option
+-- the same after the name of the option
 abbrev pub turns_of : (name number : List ℕ) → Option ℕ
 turns_of name number = if bytes_eq name (codes "--turns") then number_of number else None
 
@@ -30,7 +30,7 @@ abbrev pub with_turns : Option ℕ → Bool → Option Options
 with_turns None report = None
 with_turns (Some n) report = Some (record { turns = n; report = report })
 
--- what stands behind the file: `--turns N` and `--report`, in any order, each at most once
+-- what comes after the file: `--turns N` and `--report`, in any order, each at most once
 abbrev pub options_of : List (List ℕ) → Option Options
 options_of [] = with_turns (Some TURNS) false
 options_of (report ∷ []) = if is_report report then with_turns (Some TURNS) true else None
@@ -49,7 +49,8 @@ exec_of file (Some o) = Some (ToExec file o)
 
 -- `run FILE`, or `exec FILE` and options
 abbrev pub verb_of : (verb file : List ℕ) → List (List ℕ) → Option Asked
-verb_of verb file words = if bytes_eq verb (codes "run") then run_of file words else (if bytes_eq verb (codes "exec") then exec_of file (options_of words) else None)
+verb_of verb file words =
+    if bytes_eq verb (codes "run") then run_of file words else (if bytes_eq verb (codes "exec") then exec_of file (options_of words) else None)
 
 -- the command that the words are, or none
 abbrev pub command_of : List (List ℕ) → Option Asked

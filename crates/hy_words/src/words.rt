@@ -29,7 +29,7 @@ pub enum Command {
 #[derive(Clone, Copy, Debug, PartialEq, Eq)]
 pub struct Usage;
 
-/// What the words behind the file say: at most how many turns a run has, and whether its counts are told.
+/// What the words after the file say: at most how many turns a run has, and whether its counts are told.
 #[derive(Clone, Copy, Debug, PartialEq, Eq)]
 pub struct Options {
     pub turns: u64,
@@ -124,7 +124,7 @@ fn options_of(words: &[String]) -> Option<Options>
     }
 }
 
-/// The command that the words are; they are those behind the program's name. No memory is taken.
+/// The command that the words are; they are those after the program's name. No memory is taken.
 pub fn read_words(words: &[String]) -> Result<Command, Usage>
     ensures command { IfOk result (Reads (map string_bytes words.now)) }
     ensures within { IfOk result (IsWithin words.now) }

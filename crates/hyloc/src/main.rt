@@ -9,7 +9,7 @@ use std::alloc::{AllocError, Global};
 use std::process::ExitCode;
 use std::{env, io, rt};
 
-// The words behind the program's name.
+// The words after the program's name.
 fn command_words<R: rt::Env + AllocGlobal>(rt: &R) -> io::Result<Vec<String>> {
     let mut words = Vec::new(rt.alloc());
     for word in env::args(rt)?.skip(1) {

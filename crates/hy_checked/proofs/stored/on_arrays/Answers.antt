@@ -2,10 +2,13 @@ use Rattle.hy_checked.proofs.Lifting.{reply_as}
 use Rattle.hy_checked.proofs.stored.on_arrays.Goals as goal
 
 pub returns-in-NewArray : goal.returns-in-NewArray
-returns-in-NewArray c = reply_as c.args.object.now c.args.fun.now c.args.store.now c.new_array.new.self c.new_array.result c.args.instr _ c.in-NewArray.is c.new_array.ensures
+returns-in-NewArray c =
+    reply_as c.args.object.now c.args.fun.now c.args.store.now c.new_array.new.self c.new_array.result c.args.instr _ c.in-NewArray.is c.new_array.ensures
 
 pub returns-in-FreeArray : goal.returns-in-FreeArray
-returns-in-FreeArray c = reply_as c.args.object.now c.args.fun.now c.args.store.now c.free_array.new.self c.free_array.result c.args.instr _ c.in-FreeArray.is c.free_array.ensures
+returns-in-FreeArray c =
+    reply_as c.args.object.now c.args.fun.now c.args.store.now c.free_array.new.self c.free_array.result c.args.instr _ c.in-FreeArray.is
+    c.free_array.ensures
 
 pub returns-in-Count : goal.returns-in-Count
 returns-in-Count c = reply_as c.args.object.now c.args.fun.now c.args.store.now c.count.new.self c.count.result c.args.instr _ c.in-Count.is c.count.ensures
@@ -26,4 +29,6 @@ pub returns-in-Lend : goal.returns-in-Lend
 returns-in-Lend c = reply_as c.args.object.now c.args.fun.now c.args.store.now c.lend.new.self c.lend.result c.args.instr _ c.in-Lend.is c.lend.ensures
 
 pub returns-in-Elem : goal.returns-in-Elem
-returns-in-Elem c = reply_as c.args.object.now c.args.fun.now c.args.store.now c.lend_element.new.self c.lend_element.result c.args.instr _ c.in-Elem.is c.lend_element.ensures
+returns-in-Elem c =
+    reply_as c.args.object.now c.args.fun.now c.args.store.now c.lend_element.new.self c.lend_element.result c.args.instr _ c.in-Elem.is
+    c.lend_element.ensures

@@ -13,7 +13,13 @@ pub returns-in-Err-Bad : goal.returns-in-Err-Bad
 returns-in-Err-Bad g c =
     let short : length c.args.bytes.items ≤ longest_object = search rules in
     let exact = rw c.in-Err-Bad.field-0-is at c.in-Err-Bad.ensures.exact in
-    file_bad _ _ _ _ _ _ _ (inr (short, rw c.deref.ensures.value at exact)) (record { input_faults = refl; out_faults = refl; input = refl; out = refl }) (rw c.in-Err-Bad.field-0-is at c.refuse-in-Err-Bad.ensures)
+    file_bad _ _ _ _ _ _ _ (inr (short, rw c.deref.ensures.value at exact)) (record {
+      input_faults = refl;
+      out_faults = refl;
+      input = refl;
+      out =
+          refl;
+    }) (rw c.in-Err-Bad.field-0-is at c.refuse-in-Err-Bad.ensures)
 
 pub returns : goal.returns
 returns g c = file_want _ _ _ _ _ _ (record { input_faults = refl; out_faults = refl; input = refl; out = refl }) c.bare.ensures

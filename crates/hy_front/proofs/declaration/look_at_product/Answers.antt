@@ -1,8 +1,9 @@
 use Rattle.std.proofs.Common.{◌++◌, map, ap, ◌∙◌}
 use Rattle.hy_tree.specs.Denotes.{product_of, member_of}
-use Rattle.hy_front.specs.Noted.{after}
+use Rattle.hy_front.specs.Noted.{note, after}
 use Rattle.hy_front.specs.Unbuilt.{in_uses, in_members}
-use Rattle.hy_front.proofs.Walks.{then, then_met}
+use Rattle.hy_front.proofs.Walks.{then_met}
+use Rattle.hy_base.proofs.Walks.{then}
 use Rattle.hy_front.proofs.declaration.look_at_product.Goals as goal
 
 pub returns : goal.returns
@@ -11,6 +12,6 @@ returns c =
     let meant = c.args.meant.now in
     let it = product_of c.args.p.now in
     then_met it.at.span (in_uses it.traits ++ in_members meant it.members) c.args.first c.meet.result r c.meet.ensures
-    (then (in_uses it.traits) (in_members meant it.members) c.meet.result c.look_at_uses-first.result r
+    (then note (in_uses it.traits) (in_members meant it.members) c.meet.result c.look_at_uses-first.result r
     (c.look_at_uses-first.ensures ∙ ap (λ names. after (in_uses names) c.meet.result) c.as_slice.ensures)
     (c.look_at_members.ensures ∙ ap (λ members. after (in_members meant (map member_of members)) c.look_at_uses-first.result) c.as_slice-2.ensures))

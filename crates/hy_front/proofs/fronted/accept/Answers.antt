@@ -9,9 +9,11 @@ use Rattle.hy_front.proofs.fronted.accept.Goals as goal
 pub returns-in-Some : goal.returns-in-Some
 returns-in-Some c =
     let tree = program_of c.args.tree in
-    is_first (unbuilt (meanings tree) tree) (Some c.in-Some.span) (sym c.in-Some.is ∙ c.first_unbuilt.ensures ∙ ap (λ meant. after (unbuilt meant tree) None) c.requires)
+    is_first (unbuilt (meanings tree) tree) (Some c.in-Some.first) (sym c.in-Some.is ∙ c.first_unbuilt.ensures
+    ∙ ap (λ meant. after (unbuilt meant tree) None) c.requires)
 
 pub returns-in-None : goal.returns-in-None
 returns-in-None c =
     let tree = program_of c.args.tree in
-    (is_first (unbuilt (meanings tree) tree) None (sym c.in-None.is ∙ c.first_unbuilt.ensures ∙ ap (λ meant. after (unbuilt meant tree) None) c.requires), refl)
+    let met = sym c.in-None.is ∙ c.first_unbuilt.ensures ∙ ap (λ meant. after (unbuilt meant tree) None) c.requires in
+    (is_first (unbuilt (meanings tree) tree) None met, refl)

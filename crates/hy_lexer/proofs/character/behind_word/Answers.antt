@@ -24,13 +24,16 @@ ended n b e t = grind (arith, nat_tests)
 pub loop-c-preserved : goal.loop-c-preserved
 loop-c-preserved c = (
   c.first_char-c.ensures.utf8,
-  passes_word_more c.args.text.now c.loop-c.rest.now c.first_char-c.result.1.now c.first_char-c.result.0 c.loop-c.invariant.1 c.first_char-c.ensures.spelled (sym c.continues_word.ensures ∙ c.if-not-continues_word.false),
+  passes_word_more c.args.text.now c.loop-c.rest.now c.first_char-c.result.1.now c.first_char-c.result.0 c.loop-c.invariant.1 c.first_char-c.ensures.spelled
+      (sym c.continues_word.ensures ∙ c.if-not-continues_word.false),
 )
 
 pub returns-after-loop-c : goal.returns-after-loop-c
-returns-after-loop-c c = passes_word_end c.args.text.now c.loop-c.rest.now c.loop-c.invariant.1 (no_word c.loop-c.rest.now (ended _ _ c.is_empty.ensures c.loop-c-test.false))
+returns-after-loop-c c =
+    passes_word_end c.args.text.now c.loop-c.rest.now c.loop-c.invariant.1 (no_word c.loop-c.rest.now (ended _ _ c.is_empty.ensures c.loop-c-test.false))
 
 pub returns-then-not-continues_word : goal.returns-then-not-continues_word
 returns-then-not-continues_word c =
     passes_word_end c.args.text.now c.loop-c.rest.now c.loop-c.invariant.1
-    (other_word c.loop-c.rest.now c.first_char-c.result.1.now c.first_char-c.result.0 c.first_char-c.ensures.spelled (sym c.continues_word.ensures ∙ c.if-not-continues_word.true))
+    (other_word c.loop-c.rest.now c.first_char-c.result.1.now c.first_char-c.result.0 c.first_char-c.ensures.spelled (sym c.continues_word.ensures
+    ∙ c.if-not-continues_word.true))

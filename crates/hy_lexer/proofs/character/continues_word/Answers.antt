@@ -12,7 +12,9 @@ of_other : (c : ℕ) → is_ascii c ≡ true → is_ascii_alphanumeric c ≡ fal
 of_other c small h = is_xid_continue-ascii c (ltb-true c 128 small) ∙ ap (λ b. b || (c == 95)) h
 
 pub returns-then-is_ascii_alphanumeric : goal.returns-then-is_ascii_alphanumeric
-returns-then-is_ascii_alphanumeric c = c.if-is_ascii_alphanumeric.true ∙ sym (of_letter c.args.c (sym c.is_ascii.ensures ∙ c.if-is_ascii.true) (sym c.is_ascii_alphanumeric.ensures.value ∙ c.if-is_ascii_alphanumeric.true))
+returns-then-is_ascii_alphanumeric c = c.if-is_ascii_alphanumeric.true
+    ∙ sym (of_letter c.args.c (sym c.is_ascii.ensures ∙ c.if-is_ascii.true) (sym c.is_ascii_alphanumeric.ensures.value ∙ c.if-is_ascii_alphanumeric.true))
 
 pub returns-else-is_ascii_alphanumeric : goal.returns-else-is_ascii_alphanumeric
-returns-else-is_ascii_alphanumeric c = sym (of_other c.args.c (sym c.is_ascii.ensures ∙ c.if-is_ascii.true) (sym c.is_ascii_alphanumeric.ensures.value ∙ c.if-is_ascii_alphanumeric.false))
+returns-else-is_ascii_alphanumeric c =
+    sym (of_other c.args.c (sym c.is_ascii.ensures ∙ c.if-is_ascii.true) (sym c.is_ascii_alphanumeric.ensures.value ∙ c.if-is_ascii_alphanumeric.false))

@@ -9,4 +9,5 @@ returns-in-Some c =
     (subst (λ t. IsClosed t c.in-Some.inner) (behind_two c.as_bytes.result.now c.args.text.now c.as_bytes.ensures.value) c.in-Some.ensures)
 
 pub returns-in-None : goal.returns-in-None
-returns-in-None c = scan_open c.args.text.now c.requires (subst IsOpen (behind_two c.as_bytes.result.now c.args.text.now c.as_bytes.ensures.value) c.in-None.ensures)
+returns-in-None c =
+    scan_open c.args.text.now c.requires (subst IsOpen (behind_two c.as_bytes.result.now c.args.text.now c.as_bytes.ensures.value) c.in-None.ensures)

@@ -17,12 +17,15 @@ returns-in_default-groups t c = let below : c.in-Some.first.now < 256 = omega ar
 
 pub returns-then-high-eq0 : goal.returns-then-high-eq0
 returns-then-high-eq0 t c = let below : c.in-Some.first.now < 256 = omega arith in
-    more_groups _ _ _ _ c.if-most-eq0.false c.in-Some.ensures.cases.0 c.if-first-lt128.false below ∙ joined_zero _ _ _ _ c.in-Some-groups.ensures c.if-high-eq0.true
+    more_groups _ _ _ _ c.if-most-eq0.false c.in-Some.ensures.cases.0 c.if-first-lt128.false below
+    ∙ joined_zero _ _ _ _ c.in-Some-groups.ensures c.if-high-eq0.true
 
 pub returns-then-high : goal.returns-then-high
 returns-then-high t c = let below : c.in-Some.first.now < 256 = omega arith in let large : 2 ^ 25 ≤ c.in-Some-groups.high = omega arith in
-    more_groups _ _ _ _ c.if-most-eq0.false c.in-Some.ensures.cases.0 c.if-first-lt128.false below ∙ joined_large _ _ _ _ c.in-Some-groups.ensures c.if-high-eq0.false large
+    more_groups _ _ _ _ c.if-most-eq0.false c.in-Some.ensures.cases.0 c.if-first-lt128.false below
+    ∙ joined_large _ _ _ _ c.in-Some-groups.ensures c.if-high-eq0.false large
 
 pub returns : goal.returns
 returns t c = let below : c.in-Some.first.now < 256 = omega arith in let small : c.in-Some-groups.high < 2 ^ 25 = omega arith in
-    more_groups _ _ _ _ c.if-most-eq0.false c.in-Some.ensures.cases.0 c.if-first-lt128.false below ∙ joined_some _ _ _ _ c.in-Some-groups.ensures c.if-high-eq0.false small
+    more_groups _ _ _ _ c.if-most-eq0.false c.in-Some.ensures.cases.0 c.if-first-lt128.false below
+    ∙ joined_some _ _ _ _ c.in-Some-groups.ensures c.if-high-eq0.false small

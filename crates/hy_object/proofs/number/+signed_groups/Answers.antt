@@ -13,7 +13,8 @@ returns-then-first-lt128 t c = one_signed_group _ _ _ _ _ c.if-most-eq0.false c.
 
 pub returns-in_default-signed_groups : goal.returns-in_default-signed_groups
 returns-in_default-signed_groups t c = let below : c.in-Some.first.now < 256 = omega arith in
-    more_signed_groups _ _ _ _ c.if-most-eq0.false c.in-Some.ensures.cases.0 c.if-first-lt128.false below ∙ signed_joined_none _ _ c.in_default-signed_groups.ensures
+    more_signed_groups _ _ _ _ c.if-most-eq0.false c.in-Some.ensures.cases.0 c.if-first-lt128.false below
+    ∙ signed_joined_none _ _ c.in_default-signed_groups.ensures
 
 pub returns-in_default-with_group : goal.returns-in_default-with_group
 returns-in_default-with_group t c = let below : c.in-Some.first.now < 256 = omega arith in

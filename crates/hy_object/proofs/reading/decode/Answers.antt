@@ -20,8 +20,10 @@ returns-in-Err-At-clause-exact c = run_bad c.args.bytes.now c.in-Err-At.left (rw
 
 pub returns-in-Err-At-clause-only : goal.returns-in-Err-At-clause-only
 returns-in-Err-At-clause-only c =
-    gives c.args.bytes.now (Err (Bad (length c.args.bytes.now - c.in-Err-At.left))) (run_bad c.args.bytes.now c.in-Err-At.left (rw c.in-Err-At.field-0-is at c.in-Err-At.ensures))
+    gives c.args.bytes.now (Err (Bad (length c.args.bytes.now - c.in-Err-At.left)))
+    (run_bad c.args.bytes.now c.in-Err-At.left (rw c.in-Err-At.field-0-is at c.in-Err-At.ensures))
 
 pub returns-in-Err-At-clause-place : goal.returns-in-Err-At-clause-place
 returns-in-Err-At-clause-place c =
-    refuses c.args.bytes.now (Err (Bad (length c.args.bytes.now - c.in-Err-At.left))) (run_bad c.args.bytes.now c.in-Err-At.left (rw c.in-Err-At.field-0-is at c.in-Err-At.ensures))
+    refuses c.args.bytes.now (Err (Bad (length c.args.bytes.now - c.in-Err-At.left)))
+    (run_bad c.args.bytes.now c.in-Err-At.left (rw c.in-Err-At.field-0-is at c.in-Err-At.ensures))

@@ -8,4 +8,5 @@ use Rattle.hy_object.proofs.reading.mark.Goals as goal
 pub returns : goal.returns
 returns c =
     let found = strip_prefix_is Decides-eqb c.args.bytes.now c.args.mark.now c.strip_prefix.result c.strip_prefix.ensures.cases in
-    field_reads (Mark c.args.mark.now) (λ x. tt) (λ x. x.now) c.args.bytes.now c.strip_prefix.result c.ok_or.result (mark_found c.args.mark.now c.args.bytes.now c.strip_prefix.result found) c.ok_or.ensures.value
+    field_reads (Mark c.args.mark.now) (λ x. tt) (λ x. x.now) c.args.bytes.now c.strip_prefix.result c.ok_or.result
+    (mark_found c.args.mark.now c.args.bytes.now c.strip_prefix.result found) c.ok_or.ensures.value

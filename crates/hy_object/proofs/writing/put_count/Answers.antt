@@ -5,7 +5,9 @@ use Rattle.hy_object.proofs.writing.put_count.Goals as goal
 
 pub loop-rest-preserved : goal.loop-rest-preserved
 loop-rest-preserved c =
-    one_more _ _ c.args.out.now.items _ _ (count_bytes c.args.n) _ c.loop-rest.invariant (count_more c.loop-rest.rest (omega arith) (omega arith)) c.in_ok-push.ensures.items
+    one_more _ _ c.args.out.now.items _ _ (count_bytes c.args.n) _ c.loop-rest.invariant (count_more c.loop-rest.rest (omega arith) (omega arith))
+    c.in_ok-push.ensures.items
 
 pub returns : goal.returns
-returns c = the_last _ _ c.args.out.now.items _ (count_bytes c.args.n) _ c.loop-rest.invariant (count_last c.loop-rest.rest (omega arith)) c.in_ok-push-2.ensures.items
+returns c = the_last _ _ c.args.out.now.items _ (count_bytes c.args.n) _ c.loop-rest.invariant (count_last c.loop-rest.rest (omega arith))
+    c.in_ok-push-2.ensures.items

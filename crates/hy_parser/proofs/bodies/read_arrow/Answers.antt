@@ -11,8 +11,10 @@ pub returns-in-Some : goal.returns-in-Some
 returns-in-Some c = record {
   reads =
       let head = λ (x : Below (sort_of c.args.sort)). headed (sort_of c.args.sort) c.args.heading x in
-      follows c.args.levels c.args.levels (λ h. h) (λ x. EffectRead (head x) c.args.heading.end) (λ x. x) (λ x. TypeWanted (ForResult (head x))) (λ h x. ResultRead (headed (sort_of c.args.sort) h x) h.end) _ _ _ _
-      (λ total x le. taken total (arrow (head x) c.args.heading.end) c.in-Some.ensures.token (fits c.args.levels _ le)) (λ x le. le) c.read_result.ensures.reads;
+      follows c.args.levels c.args.levels (λ h. h) (λ x. EffectRead (head x) c.args.heading.end) (λ x. x) (λ x. TypeWanted (ForResult (head x)))
+      (λ h x. ResultRead (headed (sort_of c.args.sort) h x) h.end) _ _ _ _
+      (λ total x le. taken total (arrow (head x) c.args.heading.end) c.in-Some.ensures.token (fits c.args.levels _ le)) (λ x le. le)
+      c.read_result.ensures.reads;
   within = omega arith;
 }
 

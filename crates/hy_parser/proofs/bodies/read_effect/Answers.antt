@@ -12,7 +12,8 @@ returns-in-Some-clause-reads c = λ total x other le.
     let head = headed (sort_of c.args.sort) c.args.heading x in
     let mode = c.in-Some.mode in
     let t = c.in-Some.ensures.token in
-    over total (ParamsRead head c.args.heading.end) (EffectRead (with_effect head mode) t.token.span.to) t.token _ _ t.front (λ place. effect_taken head c.args.heading.end mode t.token place other t.is) le
+    over total (ParamsRead head c.args.heading.end) (EffectRead (with_effect head mode) t.token.span.to) t.token _ _ t.front
+    (λ place. effect_taken head c.args.heading.end mode t.token place other t.is) le
     ∙ ap (λ span. walk total (EffectRead (with_effect head mode) span.to) c.take_mode.new.tokens.rest.now) t.stands
 
 pub returns-in-None-clause-reads : goal.returns-in-None-clause-reads

@@ -21,8 +21,10 @@ variants-preserved c = record {
       let m = c.in-Some.mode in
       let v = c.in_ok-read_variant.field-0 in
       c.variants.invariant.reads total brace x le ∙ variant_begins total c.args.levels head brace variants m _ c.in-Some.keyword _ le c.in-Some.ensures.token
-      ∙ c.in_ok-read_variant.ensures.reads total (record { head = head; brace = brace; variants = variants }) (word_level c.args.levels m head brace variants c.in-Some.keyword le)
-      ∙ ap (λ made. walk total (VariantsRead head brace made) c.read_variant.new.tokens.rest.now) (sym (ap (map D.variant_of) c.in_ok-push.ensures.ok ∙ map-append D.variant_of c.variants.variants (v ∷ [])));
+      ∙ c.in_ok-read_variant.ensures.reads total (record { head = head; brace = brace; variants = variants })
+      (word_level c.args.levels m head brace variants c.in-Some.keyword le)
+      ∙ ap (λ made. walk total (VariantsRead head brace made) c.read_variant.new.tokens.rest.now)
+      (sym (ap (map D.variant_of) c.in_ok-push.ensures.ok ∙ map-append D.variant_of c.variants.variants (v ∷ [])));
 }
 
 pub returns-in_err-read_variant-clause-reads : goal.returns-in_err-read_variant-clause-reads
@@ -30,8 +32,10 @@ returns-in_err-read_variant-clause-reads c = λ brace. passed c.args.levels _ _ 
     let head = headed (sort_of c.args.sort) c.args.heading x in
     let variants = map D.variant_of c.variants.variants in
     let m = c.in-Some.mode in
-    from_there _ _ _ (c.variants.invariant.reads total brace x le ∙ variant_begins total c.args.levels head brace variants m _ c.in-Some.keyword _ le c.in-Some.ensures.token)
-    (c.in_err-read_variant.ensures.reads total (record { head = head; brace = brace; variants = variants }) (word_level c.args.levels m head brace variants c.in-Some.keyword le)))
+    from_there _ _ _ (c.variants.invariant.reads total brace x le
+    ∙ variant_begins total c.args.levels head brace variants m _ c.in-Some.keyword _ le c.in-Some.ensures.token)
+    (c.in_err-read_variant.ensures.reads total (record { head = head; brace = brace; variants = variants })
+    (word_level c.args.levels m head brace variants c.in-Some.keyword le)))
 
 pub returns-in_err-close-clause-reads : goal.returns-in_err-close-clause-reads
 returns-in_err-close-clause-reads c = λ brace. passed c.args.levels _ _ _ _ _ _ c.from_residual-in_err-close.ensures.1 (λ total x le.
@@ -39,7 +43,8 @@ returns-in_err-close-clause-reads c = λ brace. passed c.args.levels _ _ _ _ _ _
     let variants = map D.variant_of c.variants.variants in
     let lacking = c.in_default.ensures.token in
     from_there _ _ _ (c.variants.invariant.reads total brace x le ∙ ap (walk total (VariantsRead head brace variants)) (sym lacking.1))
-    (variants_stop total head brace variants c.take_mode.new.tokens.rest.now _ (ap (ahead (variant_mode (sort_of c.args.sort))) lacking.1 ∙ lacking.0) c.in_err-close.ensures.token))
+    (variants_stop total head brace variants c.take_mode.new.tokens.rest.now _ (ap (ahead (variant_mode (sort_of c.args.sort))) lacking.1
+    ∙ lacking.0) c.in_err-close.ensures.token))
 
 pub returns-clause-reads : goal.returns-clause-reads
 returns-clause-reads c = λ brace total x le.

@@ -9,7 +9,9 @@ use Rattle.hy_parser.proofs.bodies.read_variants.Given as goal
 abbrev pub invariant-variants : goal.invariant-variants
 invariant-variants l = record {
   within : length l.tokens.rest.now ≤ length l.fn.tokens.rest.now;
-  reads : (total : ℕ) (brace : Span) (x : Below (sort_of l.fn.sort)) → l.fn.levels + (depth_home x.home + 1) ≡ most_levels → walk total (VariantsRead (headed (sort_of l.fn.sort) l.heading x) brace []) l.fn.tokens.rest.now ≡ walk total (VariantsRead (headed (sort_of l.fn.sort) l.heading x) brace (map variant_of l.variants)) l.tokens.rest.now;
+  reads : (total : ℕ) (brace : Span) (x : Below (sort_of l.fn.sort)) → l.fn.levels + (depth_home x.home + 1) ≡ most_levels
+      → walk total (VariantsRead (headed (sort_of l.fn.sort) l.heading x) brace []) l.fn.tokens.rest.now ≡ walk total
+      (VariantsRead (headed (sort_of l.fn.sort) l.heading x) brace (map variant_of l.variants)) l.tokens.rest.now;
 }
 
 abbrev pub decreases-variants : goal.decreases-variants

@@ -10,11 +10,15 @@ use Rattle.hy_parser.proofs.bodies.read_varying_body.Goals as goal
 pub returns-then-begins_variants-clause-reads : goal.returns-then-begins_variants-clause-reads
 returns-then-begins_variants-clause-reads c =
     let head = λ (x : Below (sort_of c.args.sort)). headed (sort_of c.args.sort) c.args.heading x in
-    follows c.args.levels c.args.levels D.callable_of (λ x. BodyOpened (head x) c.args.brace) (λ x. x) (λ x. VariantsRead (head x) c.args.brace []) (λ z x. callable_done z x.home x.start) _ _ _ _
-    (λ total x le. in_variants total (head x) c.args.brace c.args.tokens.now.rest.now (fits c.args.levels _ le) (sym c.if-begins_variants.ensures)) (λ x le. le) (c.read_variants.ensures.reads c.args.brace)
+    follows c.args.levels c.args.levels D.callable_of (λ x. BodyOpened (head x) c.args.brace) (λ x. x) (λ x. VariantsRead (head x) c.args.brace [])
+    (λ z x. callable_done z x.home x.start) _ _ _ _
+    (λ total x le. in_variants total (head x) c.args.brace c.args.tokens.now.rest.now (fits c.args.levels _ le) (sym c.if-begins_variants.ensures))
+    (λ x le. le) (c.read_variants.ensures.reads c.args.brace)
 
 pub returns-clause-reads : goal.returns-clause-reads
 returns-clause-reads c =
     let head = λ (x : Below (sort_of c.args.sort)). headed (sort_of c.args.sort) c.args.heading x in
-    follows c.args.levels c.args.levels D.callable_of (λ x. BodyOpened (head x) c.args.brace) (λ x. x) (λ x. BlockOpened (InBody (PlainBody (head x)) c.args.brace)) (λ z x. callable_done z x.home x.start) _ _ _ _
-    (λ total x le. in_statements total (head x) c.args.brace c.args.tokens.now.rest.now (fits c.args.levels _ le) (sym c.if-begins_variants.ensures)) (λ x le. le) c.read_plain_body.ensures.reads
+    follows c.args.levels c.args.levels D.callable_of (λ x. BodyOpened (head x) c.args.brace) (λ x. x)
+    (λ x. BlockOpened (InBody (PlainBody (head x)) c.args.brace)) (λ z x. callable_done z x.home x.start) _ _ _ _
+    (λ total x le. in_statements total (head x) c.args.brace c.args.tokens.now.rest.now (fits c.args.levels _ le) (sym c.if-begins_variants.ensures))
+    (λ x le. le) c.read_plain_body.ensures.reads

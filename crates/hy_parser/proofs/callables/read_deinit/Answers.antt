@@ -20,7 +20,9 @@ returns-clause-reads c =
     let inner = opened.1 in
     let brace = c.in_ok-brace.brace in
     let f : BelowDeinit → Below Deinit = λ x. record { home = x.home; start = x.start; fits = tt } in
-    follows c.args.levels c.in_ok-brace.inner D.callable_of (λ (x : BelowDeinit). BodyWanted (PlainBody (head_of x.home x.start Deinit c.args.keyword None))) f (λ y. BlockOpened (InBody (PlainBody (headed Deinit c.new-heading.result y)) brace)) (λ z y. callable_done z y.home y.start) _ _ _ _
+    follows c.args.levels c.in_ok-brace.inner D.callable_of (λ (x : BelowDeinit). BodyWanted
+    (PlainBody (head_of x.home x.start Deinit c.args.keyword None))) f
+    (λ y. BlockOpened (InBody (PlainBody (headed Deinit c.new-heading.result y)) brace)) (λ z y. callable_done z y.home y.start) _ _ _ _
     (λ total x le. wanted total (plain_block (head_of x.home x.start Deinit c.args.keyword None)) opened.0 (omega (arith, le, inner))
     ∙ ap (λ (h : Heading). walk total (BlockOpened (InBody (PlainBody (headed Deinit h (f x))) brace)) c.open.new.self.rest.now) (sym c.new-heading.ensures))
     (λ x le. omega (arith, le, inner)) c.read_plain_body.ensures.reads

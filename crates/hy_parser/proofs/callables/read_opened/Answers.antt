@@ -22,7 +22,8 @@ pub returns-in_err-whole-clause-reads : goal.returns-in_err-whole-clause-reads
 returns-in_err-whole-clause-reads c = passed c.args.levels _ _ _ _ _ _ c.from_residual-in_err-whole.ensures.1 (λ total x le.
     let opened = c.in_ok-inner.ensures.token in
     let inner = opened.1 in
-    from_there _ _ _ (wanted total (params_want (headed (sort_of c.args.sort) c.args.heading x)) opened.0 (omega (arith, le, inner)) ∙ c.in_ok-signed.ensures.reads total x (omega (arith, le, inner)))
+    from_there _ _ _ (wanted total (params_want (headed (sort_of c.args.sort) c.args.heading x)) opened.0 (omega (arith, le, inner))
+    ∙ c.in_ok-signed.ensures.reads total x (omega (arith, le, inner)))
     (c.in_err-whole.ensures.reads total x le))
 
 pub returns-clause-reads : goal.returns-clause-reads
@@ -31,6 +32,8 @@ returns-clause-reads c =
     let opened = c.in_ok-inner.ensures.token in
     let inner = opened.1 in
     let whole = c.in_ok-whole.whole in
-    follows c.args.levels c.args.levels D.callable_of (λ (x : Below (sort_of c.args.sort)). ParamsWanted (headed s c.args.heading x)) (λ x. x) (λ x. ResultRead (headed s whole x) whole.end) (λ z x. callable_done z x.home x.start) _ _ _ _
-    (λ total x le. wanted total (params_want (headed s c.args.heading x)) opened.0 (omega (arith, le, inner)) ∙ c.in_ok-signed.ensures.reads total x (omega (arith, le, inner)) ∙ c.in_ok-whole.ensures.reads total x le)
+    follows c.args.levels c.args.levels D.callable_of (λ (x : Below (sort_of c.args.sort)). ParamsWanted (headed s c.args.heading x)) (λ x. x)
+    (λ x. ResultRead (headed s whole x) whole.end) (λ z x. callable_done z x.home x.start) _ _ _ _
+    (λ total x le. wanted total (params_want (headed s c.args.heading x)) opened.0 (omega (arith, le, inner))
+    ∙ c.in_ok-signed.ensures.reads total x (omega (arith, le, inner)) ∙ c.in_ok-whole.ensures.reads total x le)
     (λ x le. le) c.read_body.ensures.reads

@@ -7,4 +7,11 @@ use Rattle.hy_parser.proofs.declaration_nodes.variant.Goals as goal
 
 pub returns : goal.returns
 unfolding node.variant
-returns c = ap (λ (at : T.At). let made : T.Variant = record { mode = c.args.mode; keyword = Some c.args.keyword; value = c.args.value; block = block_of c.args.block; at = node.at c.args.keyword.from at.span.to } in made) (sym (block_at c.args.block))
+returns c = ap (λ (at : T.At). let made : T.Variant = record {
+  mode = c.args.mode;
+  keyword = Some c.args.keyword;
+  value = c.args.value;
+  block =
+      block_of c.args.block;
+  at = node.at c.args.keyword.from at.span.to;
+} in made) (sym (block_at c.args.block))

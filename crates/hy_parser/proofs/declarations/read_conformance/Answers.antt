@@ -16,20 +16,42 @@ returns-in_err-name-clause-reads c = passed_counted 200 _ _ _ _ _ _ c.from_resid
 pub returns-in_err-want-clause-reads : goal.returns-in_err-want-clause-reads
 returns-in_err-want-clause-reads c = passed_counted 200 _ _ _ _ _ _ c.from_residual-in_err-want.ensures.1 (λ total x n le.
     let o = opening x.decls x.start c.args.keyword in
-    from_there _ _ _ (named total (conformance_names o) c.in_ok-name.ensures.token (fits 200 0 refl) ∙ ap (λ target. walk total (ConformanceName o target) c.name.new.self.rest.now) (sym c.name_use-target.ensures)) (missed total (conformance_colon o c.name_use-target.result) c.in_err-want.ensures.token))
+    from_there _ _ _ (named total (conformance_names o) c.in_ok-name.ensures.token (fits 200 0 refl)
+    ∙ ap (λ target. walk total (ConformanceName o target) c.name.new.self.rest.now) (sym c.name_use-target.ensures))
+    (missed total (conformance_colon o c.name_use-target.result) c.in_err-want.ensures.token))
 
 pub returns-in_err-traits-clause-reads : goal.returns-in_err-traits-clause-reads
 returns-in_err-traits-clause-reads c = passed_counted 200 _ _ _ _ _ _ c.from_residual-in_err-traits.ensures.1 (λ total x n le.
     let o = opening x.decls x.start c.args.keyword in
-    from_there _ _ _ (named total (conformance_names o) c.in_ok-name.ensures.token (fits 200 0 refl) ∙ ap (λ target. walk total (ConformanceName o target) c.name.new.self.rest.now) (sym c.name_use-target.ensures) ∙ wanted total (conformance_colon o c.name_use-target.result) c.in_ok-want.ensures.token (fits 200 0 refl)) (c.in_err-traits.ensures.reads total (record { opening = o; subject = ConformanceSubject c.name_use-target.result }) refl))
+    from_there _ _ _ (named total (conformance_names o) c.in_ok-name.ensures.token (fits 200 0 refl)
+    ∙ ap (λ target. walk total (ConformanceName o target) c.name.new.self.rest.now) (sym c.name_use-target.ensures)
+    ∙ wanted total (conformance_colon o c.name_use-target.result) c.in_ok-want.ensures.token (fits 200 0 refl))
+    (c.in_err-traits.ensures.reads total (record { opening = o; subject = ConformanceSubject c.name_use-target.result }) refl))
 
 pub returns-in_err-members-clause-reads : goal.returns-in_err-members-clause-reads
 returns-in_err-members-clause-reads c = passed_counted 200 _ _ _ _ _ _ c.from_residual-in_err-members.ensures.1 (λ total x n le.
     let o = opening x.decls x.start c.args.keyword in
-    from_there _ _ _ (named total (conformance_names o) c.in_ok-name.ensures.token (fits 200 0 refl) ∙ ap (λ target. walk total (ConformanceName o target) c.name.new.self.rest.now) (sym c.name_use-target.ensures) ∙ wanted total (conformance_colon o c.name_use-target.result) c.in_ok-want.ensures.token (fits 200 0 refl) ∙ c.in_ok-traits.ensures.reads total (record { opening = o; subject = ConformanceSubject c.name_use-target.result }) refl) (c.in_err-members.ensures.reads total (record { owner = ListedOwner o (ConformanceSubject c.name_use-target.result) c.in_ok-traits.traits; is = refl }) (omega (arith, n)) refl))
+    from_there _ _ _ (named total (conformance_names o) c.in_ok-name.ensures.token (fits 200 0 refl)
+    ∙ ap (λ target. walk total (ConformanceName o target) c.name.new.self.rest.now) (sym c.name_use-target.ensures)
+    ∙ wanted total (conformance_colon o c.name_use-target.result) c.in_ok-want.ensures.token (fits 200 0 refl)
+    ∙ c.in_ok-traits.ensures.reads total (record { opening = o; subject = ConformanceSubject c.name_use-target.result }) refl)
+    (c.in_err-members.ensures.reads total (record {
+      owner = ListedOwner o (ConformanceSubject c.name_use-target.result) c.in_ok-traits.traits;
+      is =
+          refl;
+    }) (omega (arith, n)) refl))
 
 pub returns-clause-reads : goal.returns-clause-reads
 returns-clause-reads c = λ total x n le.
     let o = opening x.decls x.start c.args.keyword in
-    named total (conformance_names o) c.in_ok-name.ensures.token (fits 200 0 refl) ∙ ap (λ target. walk total (ConformanceName o target) c.name.new.self.rest.now) (sym c.name_use-target.ensures) ∙ wanted total (conformance_colon o c.name_use-target.result) c.in_ok-want.ensures.token (fits 200 0 refl) ∙ c.in_ok-traits.ensures.reads total (record { opening = o; subject = ConformanceSubject c.name_use-target.result }) refl ∙ c.in_ok-members.ensures.reads total (record { owner = ListedOwner o (ConformanceSubject c.name_use-target.result) c.in_ok-traits.traits; is = refl }) (omega (arith, n)) refl
-    ∙ ap (λ made. walk total (DeclRead x.decls x.start (T.DeclConform made) c.in_ok-members.close.to) c.read_members.new.tokens.rest.now) (sym c.conformance-made.ensures)
+    named total (conformance_names o) c.in_ok-name.ensures.token (fits 200 0 refl)
+    ∙ ap (λ target. walk total (ConformanceName o target) c.name.new.self.rest.now) (sym c.name_use-target.ensures)
+    ∙ wanted total (conformance_colon o c.name_use-target.result) c.in_ok-want.ensures.token (fits 200 0 refl)
+    ∙ c.in_ok-traits.ensures.reads total (record { opening = o; subject = ConformanceSubject c.name_use-target.result }) refl
+    ∙ c.in_ok-members.ensures.reads total (record {
+      owner = ListedOwner o (ConformanceSubject c.name_use-target.result) c.in_ok-traits.traits;
+      is =
+          refl;
+    }) (omega (arith, n)) refl
+    ∙ ap (λ made. walk total (DeclRead x.decls x.start (T.DeclConform made) c.in_ok-members.close.to) c.read_members.new.tokens.rest.now)
+    (sym c.conformance-made.ensures)

@@ -16,15 +16,21 @@ returns-in_err-name-clause-reads c = passed_counted 200 _ _ _ _ _ _ c.from_resid
 pub returns-in_err-want-clause-reads : goal.returns-in_err-want-clause-reads
 returns-in_err-want-clause-reads c = passed_counted 200 _ _ _ _ _ _ c.from_residual-in_err-want.ensures.1 (λ total x n le.
     let o = opening x.decls x.start c.args.keyword in
-    from_there _ _ _ (named total (trait_names o) c.in_ok-name.ensures.token (fits 200 0 refl)) (missed total (trait_opens o c.in_ok-name.name) c.in_err-want.ensures.token))
+    from_there _ _ _ (named total (trait_names o) c.in_ok-name.ensures.token (fits 200 0 refl))
+    (missed total (trait_opens o c.in_ok-name.name) c.in_err-want.ensures.token))
 
 pub returns-in_err-members-clause-reads : goal.returns-in_err-members-clause-reads
 returns-in_err-members-clause-reads c = passed_counted 200 _ _ _ _ _ _ c.from_residual-in_err-members.ensures.1 (λ total x n le.
     let o = opening x.decls x.start c.args.keyword in
-    from_there _ _ _ (named total (trait_names o) c.in_ok-name.ensures.token (fits 200 0 refl) ∙ wanted total (trait_opens o c.in_ok-name.name) c.in_ok-want.ensures.token (fits 199 1 refl)) (c.in_err-members.ensures.reads total (record { owner = TraitOwner o c.in_ok-name.name; is = refl }) (omega (arith, n)) refl))
+    from_there _ _ _ (named total (trait_names o) c.in_ok-name.ensures.token (fits 200 0 refl)
+    ∙ wanted total (trait_opens o c.in_ok-name.name) c.in_ok-want.ensures.token (fits 199 1 refl))
+    (c.in_err-members.ensures.reads total (record { owner = TraitOwner o c.in_ok-name.name; is = refl }) (omega (arith, n)) refl))
 
 pub returns-clause-reads : goal.returns-clause-reads
 returns-clause-reads c = λ total x n le.
     let o = opening x.decls x.start c.args.keyword in
-    named total (trait_names o) c.in_ok-name.ensures.token (fits 200 0 refl) ∙ wanted total (trait_opens o c.in_ok-name.name) c.in_ok-want.ensures.token (fits 199 1 refl) ∙ c.in_ok-members.ensures.reads total (record { owner = TraitOwner o c.in_ok-name.name; is = refl }) (omega (arith, n)) refl
-    ∙ ap (λ made. walk total (DeclRead x.decls x.start (T.DeclTrait made) c.in_ok-members.close.to) c.read_members.new.tokens.rest.now) (sym c.trait_def-made.ensures)
+    named total (trait_names o) c.in_ok-name.ensures.token (fits 200 0 refl)
+    ∙ wanted total (trait_opens o c.in_ok-name.name) c.in_ok-want.ensures.token (fits 199 1 refl)
+    ∙ c.in_ok-members.ensures.reads total (record { owner = TraitOwner o c.in_ok-name.name; is = refl }) (omega (arith, n)) refl
+    ∙ ap (λ made. walk total (DeclRead x.decls x.start (T.DeclTrait made) c.in_ok-members.close.to) c.read_members.new.tokens.rest.now)
+    (sym c.trait_def-made.ensures)

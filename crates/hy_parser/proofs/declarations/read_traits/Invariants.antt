@@ -7,7 +7,8 @@ use Rattle.hy_parser.proofs.declarations.read_traits.Given as goal
 abbrev pub invariant-traits : goal.invariant-traits
 invariant-traits l = record {
   within : length l.tokens.rest.now ≤ length l.fn.tokens.rest.now;
-  reads : (total : ℕ) (x : Listing) → walk total (TraitWanted x.opening x.subject []) l.fn.tokens.rest.now ≡ walk total (TraitWanted x.opening x.subject l.traits) l.tokens.rest.now;
+  reads : (total : ℕ) (x : Listing)
+      → walk total (TraitWanted x.opening x.subject []) l.fn.tokens.rest.now ≡ walk total (TraitWanted x.opening x.subject l.traits) l.tokens.rest.now;
 }
 
 abbrev pub decreases-traits : goal.decreases-traits

@@ -13,7 +13,8 @@ use Rattle.hy_parser.proofs.generics.read_bounds.Goals as goal
 
 pub returns-in_err-name-clause-reads : goal.returns-in_err-name-clause-reads
 returns-in_err-name-clause-reads c = λ levels. passed levels _ _ _ _ _ _ c.from_residual.ensures.1 (λ total x le.
-    from_there _ _ _ (c.bounds.invariant.reads total x (fits levels _ le)) (unnamed total (bound_wants x c.args.name c.bounds.bounds) _ _ c.in_err-name.ensures.token))
+    from_there _ _ _ (c.bounds.invariant.reads total x (fits levels _ le))
+    (unnamed total (bound_wants x c.args.name c.bounds.bounds) _ _ c.in_err-name.ensures.token))
 
 pub bounds-preserved : goal.bounds-preserved
 bounds-preserved c = record {
@@ -24,8 +25,10 @@ bounds-preserved c = record {
       let t = c.in-Some.ensures.token in
       c.bounds.invariant.reads total x le
       ∙ named total (bound_wants x c.args.name c.bounds.bounds) c.in_ok-name.ensures.token le
-      ∙ over total (BoundListed x c.args.name listed) (BoundWanted x c.args.name listed) t.token _ _ t.front (λ place. more_bounds x c.args.name listed t.token place t.is) le
-      ∙ ap (λ bounds. walk total (BoundWanted x c.args.name bounds) c.take.new.self.rest.now) (ap (λ u. c.bounds.bounds ++ u ∷ []) (sym c.name_use.ensures) ∙ sym c.in_ok-push.ensures.ok);
+      ∙ over total (BoundListed x c.args.name listed) (BoundWanted x c.args.name listed) t.token _ _ t.front
+      (λ place. more_bounds x c.args.name listed t.token place t.is) le
+      ∙ ap (λ bounds. walk total (BoundWanted x c.args.name bounds) c.take.new.self.rest.now) (ap (λ u. c.bounds.bounds ++ u ∷ []) (sym c.name_use.ensures)
+      ∙ sym c.in_ok-push.ensures.ok);
 }
 
 pub returns-in_err-more-clause-reads : goal.returns-in_err-more-clause-reads
@@ -49,4 +52,5 @@ returns-clause-reads c = λ levels total x le.
     ∙ named total (bound_wants x c.args.name c.bounds.bounds) c.in_ok-name.ensures.token (fits levels _ le)
     ∙ ap (walk total (BoundListed x c.args.name listed)) (sym lacking.1)
     ∙ generic_ended total (bounds_separate x c.args.name listed) _ _ c.in_ok-more.more c.in_ok-more.ensures.token (fits levels _ le)
-    ∙ ap (λ bounds. walk total (generic_done c.in_ok-more.more (with_generic x c.args.name bounds)) c.goes_on.new.tokens.rest.now) (ap (λ u. c.bounds.bounds ++ u ∷ []) (sym c.name_use.ensures) ∙ sym c.in_ok-push.ensures.ok)
+    ∙ ap (λ bounds. walk total (generic_done c.in_ok-more.more (with_generic x c.args.name bounds)) c.goes_on.new.tokens.rest.now)
+    (ap (λ u. c.bounds.bounds ++ u ∷ []) (sym c.name_use.ensures) ∙ sym c.in_ok-push.ensures.ok)

@@ -6,7 +6,8 @@ use Rattle.hy_parser.proofs.generics.read_bounds.Given as goal
 abbrev pub invariant-bounds : goal.invariant-bounds
 invariant-bounds l = record {
   within : length l.tokens.rest.now ≤ length l.fn.tokens.rest.now;
-  reads : (total : ℕ) (head : Head) → depth_head head ≤ most_levels → walk total (BoundWanted head l.name []) l.fn.tokens.rest.now ≡ walk total (BoundWanted head l.name l.bounds) l.tokens.rest.now;
+  reads : (total : ℕ) (head : Head) → depth_head head ≤ most_levels
+      → walk total (BoundWanted head l.name []) l.fn.tokens.rest.now ≡ walk total (BoundWanted head l.name l.bounds) l.tokens.rest.now;
 }
 
 abbrev pub decreases-bounds : goal.decreases-bounds

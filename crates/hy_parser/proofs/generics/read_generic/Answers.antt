@@ -12,14 +12,17 @@ use Rattle.hy_phrases.proofs.Walks.{fits, over, named, unnamed, from_there}
 use Rattle.hy_parser.proofs.generics.read_generic.Goals as goal
 
 pub returns-in_err-name-clause-reads : goal.returns-in_err-name-clause-reads
-returns-in_err-name-clause-reads c = λ levels. passed levels _ _ _ _ _ _ c.from_residual.ensures.1 (λ total x le. unnamed total (generic_wants x) _ _ c.in_err-name.ensures.token)
+returns-in_err-name-clause-reads c =
+    λ levels. passed levels _ _ _ _ _ _ c.from_residual.ensures.1 (λ total x le. unnamed total (generic_wants x) _ _ c.in_err-name.ensures.token)
 
 pub returns-in-Some-clause-reads : goal.returns-in-Some-clause-reads
 returns-in-Some-clause-reads c = λ levels.
     let name = c.in_ok-name.name in
     let t = c.in-Some.ensures.token in
     follows levels levels (λ r. r) GenericWanted (λ x. x) (λ head. BoundWanted head name []) generic_behind _ _ _ _
-    (λ total x le. named total (generic_wants x) c.in_ok-name.ensures.token (fits levels _ le) ∙ over total (GenericName x name) (BoundWanted x name []) t.token _ _ t.front (λ place. colon_of_generic x name t.token place t.is) (fits levels _ le))
+    (λ total x le. named total (generic_wants x) c.in_ok-name.ensures.token (fits levels _ le)
+    ∙ over total (GenericName x name) (BoundWanted x name []) t.token _ _ t.front (λ place. colon_of_generic x name t.token place t.is)
+    (fits levels _ le))
     (λ x le. le) (c.read_bounds.ensures.reads levels)
 
 pub returns-in_err-more-clause-reads : goal.returns-in_err-more-clause-reads

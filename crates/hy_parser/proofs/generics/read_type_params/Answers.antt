@@ -8,7 +8,8 @@ use Rattle.hy_parser.proofs.generics.read_type_params.Goals as goal
 
 pub returns-in_err-generic-clause-reads : goal.returns-in_err-generic-clause-reads
 returns-in_err-generic-clause-reads c = λ levels. passed levels _ _ _ _ _ _ c.from_residual.ensures.1 (λ total x le.
-    from_there _ _ _ (c.generics.invariant.reads total levels x le) (c.in_err-generic.ensures.reads levels total (headed (sort_of c.args.sort) c.generics.heading x) le))
+    from_there _ _ _ (c.generics.invariant.reads total levels x le)
+    (c.in_err-generic.ensures.reads levels total (headed (sort_of c.args.sort) c.generics.heading x) le))
 
 pub returns-then-not-more-clause-reads : goal.returns-then-not-more-clause-reads
 returns-then-not-more-clause-reads c = λ levels total x le.

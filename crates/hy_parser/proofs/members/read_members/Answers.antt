@@ -31,5 +31,6 @@ members-preserved c = record {
       c.members.invariant.reads total x n ∙ ap (walk total (MembersReady x.owner members)) (sym lacking.1)
       ∙ c.in_ok-read_member.ensures.reads total (record { owner = x.owner; members = members; is = x.is }) (omega (arith, n)) refl
       ∙ after_member total x.owner (members ++ D.member_of m ∷ []) c.take-in-members.result _ _ c.take-in-members.ensures.token
-      ∙ ap (λ made. walk total (MembersReady x.owner made) c.take-in-members.new.self.rest.now) (sym (ap (map D.member_of) c.in_ok-push.ensures.ok ∙ map-append D.member_of c.members.members (m ∷ [])));
+      ∙ ap (λ made. walk total (MembersReady x.owner made) c.take-in-members.new.self.rest.now)
+      (sym (ap (map D.member_of) c.in_ok-push.ensures.ok ∙ map-append D.member_of c.members.members (m ∷ [])));
 }

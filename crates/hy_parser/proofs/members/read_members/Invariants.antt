@@ -8,7 +8,8 @@ use Rattle.hy_parser.proofs.members.read_members.Given as goal
 abbrev pub invariant-members : goal.invariant-members
 invariant-members l = record {
   within : length l.tokens.rest.now ≤ length l.fn.tokens.rest.now;
-  reads : (total : ℕ) (x : OwnerOf l.fn.sort) → length l.fn.tokens.rest.now ≤ total → walk total (MembersReady x.owner []) l.fn.tokens.rest.now ≡ walk total (MembersReady x.owner (map member_of l.members)) l.tokens.rest.now;
+  reads : (total : ℕ) (x : OwnerOf l.fn.sort) → length l.fn.tokens.rest.now ≤ total
+      → walk total (MembersReady x.owner []) l.fn.tokens.rest.now ≡ walk total (MembersReady x.owner (map member_of l.members)) l.tokens.rest.now;
 }
 
 abbrev pub decreases-members : goal.decreases-members

@@ -10,7 +10,8 @@ use Rattle.hy_parser.proofs.parameters.read_mode.Goals as goal
 pub returns-in-Some-clause-reads : goal.returns-in-Some-clause-reads
 returns-in-Some-clause-reads c = λ total head from label name is le.
     let t = c.in-Some.ensures.token in
-    over total (ParamColon head from label name) (TypeWanted (ForParam head from label name c.in-Some.mode)) t.token _ _ t.front (λ place. moded head from label name c.in-Some.mode t.token place (ap (λ sort. mode_in sort t.token.kind) is ∙ t.is)) le
+    over total (ParamColon head from label name) (TypeWanted (ForParam head from label name c.in-Some.mode)) t.token _ _ t.front
+    (λ place. moded head from label name c.in-Some.mode t.token place (ap (λ sort. mode_in sort t.token.kind) is ∙ t.is)) le
 
 pub returns-in-None-clause-reads : goal.returns-in-None-clause-reads
 returns-in-None-clause-reads c = λ total head from label name is le.

@@ -15,7 +15,8 @@ returns-in-Some-clause-reads c = λ levels.
 pub returns-in_err-first-clause-reads : goal.returns-in_err-first-clause-reads
 returns-in_err-first-clause-reads c = λ levels. passed levels _ _ _ _ _ _ c.from_residual.ensures.1 (λ total x le.
     let lacking = c.in_default.ensures.token in
-    from_there _ _ _ (ap (walk total (ParamWanted x)) (sym lacking.1)) (unnamed_but total (param_names x) _ _ (still k.Underscore _ _ lacking.0 lacking.1) c.in_err-first.ensures.token))
+    from_there _ _ _ (ap (walk total (ParamWanted x)) (sym lacking.1))
+    (unnamed_but total (param_names x) _ _ (still k.Underscore _ _ lacking.0 lacking.1) c.in_err-first.ensures.token))
 
 pub returns-clause-reads : goal.returns-clause-reads
 returns-clause-reads c = λ levels.

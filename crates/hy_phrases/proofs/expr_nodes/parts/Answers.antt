@@ -11,4 +11,5 @@ returns-then-len-eq1 c =
     ∙ expr_alone c.args.bracket c.args.close c.pop.new.self c.args.parts c.unwrap-alone.result (sym c.len.ensures ∙ c.if-len-eq1.true) popped
 
 pub returns : goal.returns
-returns c = ap (λ span. expr_kind_of (E.Tuple c.args.parts) (placed span 0)) c.between-span.ensures ∙ expr_tuple c.args.bracket c.args.close c.args.parts (λ h. c.if-len-eq1.false (c.len.ensures ∙ h))
+returns c = ap (λ span. expr_kind_of (E.Tuple c.args.parts) (placed span 0)) c.between-span.ensures
+    ∙ expr_tuple c.args.bracket c.args.close c.args.parts (λ h. c.if-len-eq1.false (c.len.ensures ∙ h))

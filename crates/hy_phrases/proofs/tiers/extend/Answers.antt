@@ -11,5 +11,6 @@ pub returns : goal.returns
 returns c =
     let chain = c.in-Some.chain in
     ap (λ links. stack.OpenChain (expr_of chain.first) links c.args.operator c.args.token)
-    (pushed link_of chain.links c.push.new.self c.link-last.result (node.link (expr_of chain.first) chain.operator chain.token (expr_of c.args.operand)) c.in_ok-push.ensures.ok (c.link-last.ensures (expr_of chain.first) (first_from chain.first)))
+    (pushed link_of chain.links c.push.new.self c.link-last.result (node.link (expr_of chain.first) chain.operator chain.token (expr_of c.args.operand))
+    c.in_ok-push.ensures.ok (c.link-last.ensures (expr_of chain.first) (first_from chain.first)))
     ∙ sym (ap (λ t. steps.extend (tier_of t) (expr_of c.args.operand) c.args.operator c.args.token) c.in-Some.is)

@@ -9,6 +9,7 @@ use Rattle.hy_phrases.proofs.tiers.join.Goals as goal
 pub returns : goal.returns
 returns c =
     let chain = c.in-Some.chain in
-    joins chain.first c.in_ok-new.field-0 c.args.operand c.push.new.self chain.links c.link-last.result (node.link (expr_of chain.first) chain.operator chain.token (expr_of c.args.operand)) c.between-span.result
+    joins chain.first c.in_ok-new.field-0 c.args.operand c.push.new.self chain.links c.link-last.result
+    (node.link (expr_of chain.first) chain.operator chain.token (expr_of c.args.operand)) c.between-span.result
     c.in_ok-new.ensures c.in_ok-push.ensures.ok (c.link-last.ensures (expr_of chain.first) (first_from chain.first)) c.between-span.ensures
     ∙ sym (ap (λ t. steps.join (tier_of t) (expr_of c.args.operand)) c.in-Some.is)

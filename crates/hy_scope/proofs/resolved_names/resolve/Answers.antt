@@ -11,15 +11,17 @@ use Rattle.hy_scope.proofs.resolved_names.resolve.Goals as goal
 pub returns-in-Some : goal.returns-in-Some
 returns-in-Some c =
     let tree = program_of c.args.tree.now in
-    let start : noted c.in_ok-notes.notes ≡ record { first = None; meant = replicate (nodes tree) meant.Nothing } = c.in_ok-notes.ensures ∙ ap (λ count. record { first = None; meant = replicate count meant.Nothing }) c.count.ensures in
+    let start : noted c.in_ok-notes.notes ≡ record { first = None; meant = replicate (nodes tree) meant.Nothing } = c.in_ok-notes.ensures
+    ∙ ap (λ count. record { first = None; meant = replicate count meant.Nothing }) c.count.ensures in
     let end = c.in_ok-walk_program.ensures ∙ ap (after (findings tree)) start in
-    subst (IsFirst (Breaks tree)) (sym (c.in-Some.ensures ∙ (λ i. (end i).first))) (is_first (findings tree) (replicate (nodes tree) meant.Nothing))
+    subst (IsFirst (Breaks tree)) (sym (sym c.in-Some.is ∙ (λ i. (end i).first))) (is_first (findings tree) (replicate (nodes tree) meant.Nothing))
 
 pub returns-in-None : goal.returns-in-None
 returns-in-None c =
     let tree = program_of c.args.tree.now in
-    let start : noted c.in_ok-notes.notes ≡ record { first = None; meant = replicate (nodes tree) meant.Nothing } = c.in_ok-notes.ensures ∙ ap (λ count. record { first = None; meant = replicate count meant.Nothing }) c.count.ensures in
+    let start : noted c.in_ok-notes.notes ≡ record { first = None; meant = replicate (nodes tree) meant.Nothing } = c.in_ok-notes.ensures
+    ∙ ap (λ count. record { first = None; meant = replicate count meant.Nothing }) c.count.ensures in
     let end = c.in_ok-walk_program.ensures ∙ ap (after (findings tree)) start in (
-      subst (IsFirst (Breaks tree)) (sym (c.in-None.ensures ∙ (λ i. (end i).first))) (is_first (findings tree) (replicate (nodes tree) meant.Nothing)),
+      subst (IsFirst (Breaks tree)) (sym (sym c.in-None.is ∙ (λ i. (end i).first))) (is_first (findings tree) (replicate (nodes tree) meant.Nothing)),
       (λ i. (end i).meant) ∙ meant_after (findings tree) (record { first = None; meant = replicate (nodes tree) meant.Nothing }),
     )

@@ -9,4 +9,5 @@ pub returns : goal.returns
 returns c =
     let first = find_expr (around_of c.args.around.now) (blocks_of c.args.blocks.now) (expr_of c.args.first.now) in
     let second = find_expr (around_of c.args.around.now) (blocks_of c.args.blocks.now) (expr_of c.args.second.now) in
-    found_rest c.walk_expr-2.result (first ++ second) first second (noted c.args.notes.now) (noted c.walk_expr.new.notes) (noted c.walk_expr-2.new.notes) refl c.in_ok-walk_expr.ensures c.walk_expr-2.ensures
+    found_rest c.walk_expr-2.result (first ++ second) first second (noted c.args.notes.now) (noted c.walk_expr.new.notes) (noted c.walk_expr-2.new.notes)
+    refl c.in_ok-walk_expr.ensures c.walk_expr-2.ensures

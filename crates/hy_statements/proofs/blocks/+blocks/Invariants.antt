@@ -9,7 +9,8 @@ use Rattle.hy_statements.proofs.blocks.+blocks.Given as goal
 abbrev pub invariant-read_block-stmts : goal.invariant-read_block-stmts
 invariant-read_block-stmts l = record {
   within : length l.tokens.rest.now ≤ length l.fn.tokens.rest.now;
-  reads : (total : ℕ) (x : Opened l.brace l.looping) → l.levels + depth_place x.place ≡ most_levels → walk total (BlockOpened x.place) l.fn.tokens.rest.now ≡ walk total (StmtWanted (map stmt_of l.stmts) x.place) l.tokens.rest.now;
+  reads : (total : ℕ) (x : Opened l.brace l.looping) → l.levels + depth_place x.place ≡ most_levels
+      → walk total (BlockOpened x.place) l.fn.tokens.rest.now ≡ walk total (StmtWanted (map stmt_of l.stmts) x.place) l.tokens.rest.now;
 }
 
 abbrev pub decreases-read_block : goal.decreases-read_block
@@ -34,7 +35,8 @@ abbrev pub invariant-read_if-branches : goal.invariant-read_if-branches
 invariant-read_if-branches l = record {
   within : length l.tokens.rest.now ≤ length l.fn.tokens.rest.now;
   reads : (total : ℕ) (x : LoopSite l.looping) → l.levels + (depth_place x.site.place + 0) ≡ most_levels
-      → walk total (Operand (beginning (ForBranch l.first.from [] l.first x.site.before x.site.place))) l.fn.tokens.rest.now ≡ walk total (Operand (beginning (ForBranch l.first.from (map branch_of l.branches) l.word x.site.before x.site.place))) l.tokens.rest.now;
+      → walk total (Operand (beginning (ForBranch l.first.from [] l.first x.site.before x.site.place))) l.fn.tokens.rest.now ≡ walk total
+      (Operand (beginning (ForBranch l.first.from (map branch_of l.branches) l.word x.site.before x.site.place))) l.tokens.rest.now;
 }
 
 abbrev pub decreases-read_if-branches : goal.decreases-read_if-branches

@@ -21,7 +21,8 @@ returns-then-not-begins_line-clause-reads c = λ levels total x fits.
     let semicolon = c.in_default-take.ensures.token in
     let rest = semicolon.1 ∙ brace.1 in
     refuses (starts fits)
-    (on_same_line x.before x.place _ (subst (λ l. Sees k.Semicolon l → ⊥) brace.1 semicolon.0) brace.0 (ap begins_line (sym rest) ∙ sym c.if-not-begins_line.ensures))
+    (on_same_line x.before x.place _ (subst (λ l. Sees k.Semicolon l → ⊥) brace.1 semicolon.0) brace.0 (ap begins_line (sym rest)
+    ∙ sym c.if-not-begins_line.ensures))
     _ (c.stop.ensures ∙ ap (λ l. stop.Unexpected (length l)) rest)
 
 pub returns-clause-reads : goal.returns-clause-reads
@@ -29,5 +30,7 @@ returns-clause-reads c = λ levels total x fits.
     let brace = c.in_default.ensures.token in
     let semicolon = c.in_default-take.ensures.token in
     let rest = semicolon.1 ∙ brace.1 in
-    let g = stays (turns (starts fits) (on_next_line x.before x.place _ (subst (λ l. Sees k.Semicolon l → ⊥) brace.1 semicolon.0) brace.0 (ap begins_line (sym rest) ∙ sym c.if-not-begins_line.ensures))) rest in
+    let g = stays
+    (turns (starts fits) (on_next_line x.before x.place _ (subst (λ l. Sees k.Semicolon l → ⊥) brace.1 semicolon.0) brace.0 (ap begins_line (sym rest)
+    ∙ sym c.if-not-begins_line.ensures))) rest in
     g.same

@@ -63,7 +63,8 @@ is_built = record { main = sum_main; only = refl; code = (tt, (tt, (tt, (tt, (tt
 
 -- an ended run is not stuck
 not_stuck : (j : ℕ) (s : State) (e : _) (why : _) (at : _) → s.stop ≡ Some (Ended e) → (steps sum j s).stop ≡ Some (Stuck why at) → ⊥
-not_stuck j s e why at h stuck = let same : Some (Ended e) ≡ Some (Stuck why at) = sym h ∙ ap (λ t. t.stop) (sym (ended_stays sum j s (Ended e) h)) ∙ stuck in cc
+not_stuck j s e why at h stuck = let same : Some (Ended e) ≡ Some (Stuck why at) = sym h ∙ ap (λ t. t.stop) (sym (ended_stays sum j s (Ended e) h))
+    ∙ stuck in cc
 
 is_safe : IsSafe sum
 is_safe input cut zero k why at h = not_stuck k (begin sum input cut zero) _ why at refl h
@@ -75,7 +76,8 @@ is_safe input cut (suc n) (suc (suc (suc (suc zero)))) why at h = cc
 is_safe input cut (suc n) (suc (suc (suc (suc (suc j))))) why at h = not_stuck j (steps sum 5 (begin sum input cut (suc n))) _ why at refl h
 
 pub returns-clause-grammar : goal.returns-clause-grammar
-returns-clause-grammar c = IfOk-weaker c.object_of.result (λ o. o ≡ sum) (λ o. IsInGrammar o) (λ o e. subst (λ o. IsInGrammar o) (sym e) in_grammar) c.object_of.ensures
+returns-clause-grammar c =
+    IfOk-weaker c.object_of.result (λ o. o ≡ sum) (λ o. IsInGrammar o) (λ o e. subst (λ o. IsInGrammar o) (sym e) in_grammar) c.object_of.ensures
 
 pub returns-clause-built : goal.returns-clause-built
 returns-clause-built c = IfOk-weaker c.object_of.result (λ o. o ≡ sum) (λ o. IsBuilt o) (λ o e. subst (λ o. IsBuilt o) (sym e) is_built) c.object_of.ensures

@@ -7,4 +7,5 @@ use Rattle.hy_tree.proofs.count.+types.Goals as goal
 
 pub types_from-returns : goal.types_from-returns
 types_from-returns t c =
-    counts_closed type_of count_type c.args.so_far c.args.parts.now types count_types counted_types_are c.loop-part.part-index c.loop-part.total c.loop-part-test.false c.loop-part.invariant
+    counts_closed type_of count_type c.args.so_far c.args.parts.now types count_types counted_types_are c.loop-part.part-index c.loop-part.total
+    c.loop-part-test.false c.loop-part.invariant

@@ -1,8 +1,11 @@
 use Rattle.std.proofs.Common.{◌∙◌}
 use Rattle.hy_tree.specs.Denotes.{placed, expr_kind_of, expr_of, link_of, step_kind_of, step_of, arg_of, choice_of}
-use Rattle.hy_tree.specs.Numbers.{count_expr, count_exprs, number_expr, number_exprs, count_links, number_links, count_step, number_step, count_steps, number_steps, count_args, number_args, count_choices, number_choices}
+use Rattle.hy_tree.specs.Numbers.{count_expr, count_exprs, number_expr, number_exprs, count_links, number_links, count_step, number_step, count_steps}
+use Rattle.hy_tree.specs.Numbers.{number_steps, count_args, number_args, count_choices, number_choices}
 use Rattle.hy_tree.specs.Tree.{exprs, links, steps, args, choices}
-use Rattle.hy_tree.proofs.Counts.{count_link, number_link, count_arg, number_arg, count_choice, number_choice, numbered_exprs_are, counted_exprs_are, numbered_links_are, counted_links_are, numbered_steps_are, counted_steps_are, numbered_args_are, counted_args_are, numbered_choices_are, counted_choices_are}
+use Rattle.hy_tree.proofs.Counts.{count_link, number_link, count_arg, number_arg, count_choice, number_choice, numbered_exprs_are, counted_exprs_are}
+use Rattle.hy_tree.proofs.Counts.{numbered_links_are, counted_links_are, numbered_steps_are, counted_steps_are, numbered_args_are, counted_args_are}
+use Rattle.hy_tree.proofs.Counts.{numbered_choices_are, counted_choices_are}
 use Rattle.hy_tree.proofs.Lists.{numbers_closed}
 use Rattle.hy_tree.proofs.number_expression.+expressions.Goals as goal
 
@@ -40,5 +43,6 @@ number_args-returns t c =
 
 pub number_choices-returns : goal.number_choices-returns
 number_choices-returns t c =
-    numbers_closed choice_of count_choice number_choice c.args.next.now c.args.choices.now choices count_choices number_choices numbered_choices_are counted_choices_are
+    numbers_closed choice_of count_choice number_choice c.args.next.now c.args.choices.now choices count_choices number_choices numbered_choices_are
+    counted_choices_are
     c.loop-choice.choice-index c.loop-choice.next c.loop-choice.made c.loop-choice-test.false c.loop-choice.invariant

@@ -15,16 +15,23 @@ loop-place-preserved c =
     elim c.if-is_pending.branch [
       | then-is_pending+then-not-is_pending w ↦
           let at = read_at types types before.place w.index-types-place.result refl c.loop-place-test.true w.index-types-place.is in
-          passes_as types entries c.args.sizes.now (set before.sizes before.place w.size_of-size.result) c.if-is_pending.sizes true c.if-is_pending.changed (before.place + 1) w.sizes-is w.changed-is
-          (made_out types entries c.args.sizes.now before.sizes before.changed before.place before.invariant w.index-types-place.result w.size_of-size.result at w.size_of-size.ensures
-          _ (let l : before.place < length before.sizes = omega (arith, before.invariant.long, c.loop-place-test.true) in l) (sym c.is_pending.ensures ∙ w.if-is_pending.true) (sym w.if-not-is_pending.ensures))
+          passes_as types entries c.args.sizes.now (set before.sizes before.place w.size_of-size.result) c.if-is_pending.sizes true c.if-is_pending.changed
+          (before.place + 1) w.sizes-is w.changed-is
+          (made_out types entries c.args.sizes.now before.sizes before.changed before.place before.invariant w.index-types-place.result
+          w.size_of-size.result at w.size_of-size.ensures
+          _ (let l : before.place < length before.sizes = omega (arith, before.invariant.long, c.loop-place-test.true) in l) (sym c.is_pending.ensures
+          ∙ w.if-is_pending.true) (sym w.if-not-is_pending.ensures))
       | then-is_pending+else-not-is_pending w ↦
           let at = read_at types types before.place w.index-types-place.result refl c.loop-place-test.true w.index-types-place.is in
-          passes_as types entries c.args.sizes.now before.sizes c.if-is_pending.sizes before.changed c.if-is_pending.changed (before.place + 1) w.sizes-is w.changed-is
-          (left_open types entries c.args.sizes.now before.sizes before.changed before.place before.invariant w.index-types-place.result w.size_of-size.result at w.size_of-size.ensures (sym w.if-not-is_pending.ensures))
+          passes_as types entries c.args.sizes.now before.sizes c.if-is_pending.sizes before.changed c.if-is_pending.changed (before.place + 1) w.sizes-is
+          w.changed-is
+          (left_open types entries c.args.sizes.now before.sizes before.changed before.place before.invariant w.index-types-place.result
+          w.size_of-size.result at w.size_of-size.ensures (sym w.if-not-is_pending.ensures))
       | else-is_pending w ↦
-          passes_as types entries c.args.sizes.now before.sizes c.if-is_pending.sizes before.changed c.if-is_pending.changed (before.place + 1) w.sizes-is w.changed-is
-          (passed_over types entries c.args.sizes.now before.sizes before.changed before.place before.invariant _ (sym c.is_pending.ensures ∙ w.if-is_pending.false))
+          passes_as types entries c.args.sizes.now before.sizes c.if-is_pending.sizes before.changed c.if-is_pending.changed (before.place + 1) w.sizes-is
+          w.changed-is
+          (passed_over types entries c.args.sizes.now before.sizes before.changed before.place before.invariant _ (sym c.is_pending.ensures
+          ∙ w.if-is_pending.false))
     ]
 
 pub returns-clause-settled : goal.returns-clause-settled

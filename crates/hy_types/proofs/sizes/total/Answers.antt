@@ -12,4 +12,5 @@ loop-part-init c = λ table right. (none, omega arith)
 
 pub loop-part-preserved : goal.loop-part-preserved
 loop-part-preserved c =
-    known_step c.args.sizes.now c.args.parts.now c.loop-part.part-index _ _ c.loop-part.sum c.plus-sum.result c.loop-part-test.true c.requires c.plus-sum.ensures c.loop-part.invariant
+    known_step c.args.sizes.now c.args.parts.now c.loop-part.part-index _ _ c.loop-part.sum c.plus-sum.result c.loop-part-test.true c.requires
+    c.plus-sum.ensures c.loop-part.invariant

@@ -7,4 +7,9 @@ pub returns-in_default-clause-usage : goal.returns-in_default-clause-usage
 returns-in_default-clause-usage c = too_short c.args.words.now c.in_default.len_below
 
 pub returns-clause-within : goal.returns-clause-within
-returns-clause-within c = (let many = c.in-len2-up.len_at_least in omega (arith, many), options_within (map string_bytes (take (length c.args.words.now - 2) (drop 2 c.args.words.now))) c.options_of.result c.in-Some.field-0 c.options_of.ensures c.in-Some.is)
+returns-clause-within c = (
+  let many = c.in-len2-up.len_at_least in
+      omega (arith, many),
+  options_within (map string_bytes (take (length c.args.words.now - 2) (drop 2 c.args.words.now))) c.options_of.result
+      c.in-Some.field-0 c.options_of.ensures c.in-Some.is,
+)

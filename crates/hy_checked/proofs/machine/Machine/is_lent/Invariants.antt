@@ -6,4 +6,4 @@ abbrev pub invariant-loop-at : goal.invariant-loop-at
 invariant-loop-at l = NoneBelow l.object l.self l.name l.at
 
 abbrev pub decreases-loop-at : goal.decreases-loop-at
-decreases-loop-at l = length l.self.sleepers.items - l.at
+decreases-loop-at l = length l.self.suspended_ids.items - l.at

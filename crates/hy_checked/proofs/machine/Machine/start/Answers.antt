@@ -5,7 +5,7 @@ use Rattle.hy_checked.proofs.Pausing.{now_live}
 use Rattle.hy_checked.proofs.machine.Machine.start.Goals as goal
 
 pub go-requires : goal.go-requires
-go-requires c = now_live c.args.object.now c.args.self.now c.requires.here.state c.requires.here.stands
+go-requires c = now_live c.args.object.now c.args.self.now c.requires.here.state c.requires.here.simulates
 
 pub overflow_add-self : goal.overflow_add-self
 overflow_add-self c =
@@ -13,7 +13,8 @@ overflow_add-self c =
     omega (arith, fits)
 
 pub returns : goal.returns
-returns c = starts c.args.object.now c.args.self.now c.start-2.new.self c.args.fun.now c.args.callee.now c.args.what c.requires c.in_ok-act.act c.go.new.self _ c.go.ensures c.in_ok-act.ensures.started c.in_ok-act.ensures.new_id c.in_default.ensures.seen c.if-self-eq0.false
+returns c = starts c.args.object.now c.args.self.now c.start-2.new.self c.args.fun.now c.args.callee.now c.args.what c.requires c.in_ok-act.act
+    c.go.new.self _ c.go.ensures c.in_ok-act.ensures.started c.in_ok-act.ensures.new_id c.in_default.ensures.represented c.if-self-eq0.false
 
 pub start-requires-2-clause-other : goal.start-requires-2-clause-other
 start-requires-2-clause-other c = other_block c.args.object.now c.args.self.now c.args.fun.now c.args.callee.now c.args.what c.requires

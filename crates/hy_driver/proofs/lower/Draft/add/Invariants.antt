@@ -7,6 +7,9 @@ use Rattle.hy_driver.proofs.lower.Draft.add.Given as goal
 
 abbrev pub invariant-loop-link : goal.invariant-loop-link
 invariant-loop-link l = record {
-  code : (rest : List Instr) → l.self.code ++ more_code l.scope (length l.self.spans) (links_of (drop l.link-index l.links)) rest ≡ l.initial.self.code ++ more_code l.scope (length l.initial.self.spans) (links_of l.links) rest;
-  spans : (rest : List Span) → l.self.spans ++ more_spans (links_of (drop l.link-index l.links)) rest ≡ l.initial.self.spans ++ more_spans (links_of l.links) rest;
+  code : (rest : List Instr)
+      → l.self.code ++ more_code l.scope (length l.self.spans) (links_of (drop l.link-index l.links)) rest ≡ l.initial.self.code ++ more_code l.scope
+      (length l.initial.self.spans) (links_of l.links) rest;
+  spans : (rest : List Span) → l.self.spans ++ more_spans (links_of (drop l.link-index l.links)) rest ≡ l.initial.self.spans ++ more_spans
+      (links_of l.links) rest;
 }

@@ -19,7 +19,8 @@ returns-in_err-label-clause-reads g c = passes c.args.levels arg_of need have _ 
 
 pub returns-in_err-value-clause-reads : goal.returns-in_err-value-clause-reads
 returns-in_err-value-clause-reads g c = passes c.args.levels arg_of need have _ _ c.from_residual-in_err-value.result _ c.from_residual-in_err-value.ensures.1
-    (λ total x h. from_there _ _ _ (c.in_ok-label.ensures.reads c.args.levels total x h) (c.in_err-value.ensures.reads total (ForArgument x.callee x.args c.in_ok-label.label x.spot) (omega (arith, h))))
+    (λ total x h. from_there _ _ _ (c.in_ok-label.ensures.reads c.args.levels total x h)
+    (c.in_err-value.ensures.reads total (ForArgument x.callee x.args c.in_ok-label.label x.spot) (omega (arith, h))))
 
 pub returns-clause-reads : goal.returns-clause-reads
 returns-clause-reads g c = λ total x h.

@@ -10,7 +10,8 @@ abbrev pub invariant-arguments : goal.invariant-arguments
 invariant-arguments g l = record {
   within : length l.tokens.rest.now ≤ length l.fn.tokens.rest.now;
   reads : (total : ℕ) (x : StepSpot) → l.levels + depth (ArgumentsOpened (callee (expr_of l.primary) x.steps (brackets_of l.brackets)) x.spot) ≡ most_levels
-      → walk total (ArgumentsOpened (callee (expr_of l.primary) x.steps (brackets_of l.brackets)) x.spot) l.fn.tokens.rest.now ≡ walk total (ArgumentsRead (callee (expr_of l.primary) x.steps (brackets_of l.brackets)) (map arg_of l.args) x.spot) l.tokens.rest.now;
+      → walk total (ArgumentsOpened (callee (expr_of l.primary) x.steps (brackets_of l.brackets)) x.spot) l.fn.tokens.rest.now ≡ walk total
+      (ArgumentsRead (callee (expr_of l.primary) x.steps (brackets_of l.brackets)) (map arg_of l.args) x.spot) l.tokens.rest.now;
 }
 
 abbrev pub decreases-arguments : goal.decreases-arguments

@@ -28,25 +28,32 @@ elements-init g c = record {
   reads = λ total x h.
       c.in_ok-inner.ensures.reads total (ForElement c.args.bracket [] x) (omega (arith, h))
       ∙ element_read c.args.bracket x [] total (expr_of c.in_ok-inner.field-0) _
-      ∙ ap (λ l. walk total (ElementsRead c.args.bracket l x) c.inner.new.tokens.rest.now) (sym (ap (map expr_of) (c.in_ok-push.ensures.ok ∙ ap (λ l. l ++ c.in_ok-inner.field-0 ∷ []) c.new-made.ensures)));
+      ∙ ap (λ l. walk total (ElementsRead c.args.bracket l x) c.inner.new.tokens.rest.now)
+      (sym (ap (map expr_of) (c.in_ok-push.ensures.ok ∙ ap (λ l. l ++ c.in_ok-inner.field-0 ∷ []) c.new-made.ensures)));
 }
 
 pub returns-in_err-inner-2-clause-reads : goal.returns-in_err-inner-2-clause-reads
-returns-in_err-inner-2-clause-reads g c = passes c.args.levels expr_of (need c.args.bracket) behind _ _ c.from_residual-in_err-inner-2.result _ c.from_residual-in_err-inner-2.ensures.1
-    (λ total x h. from_there _ _ _ (c.elements.invariant.reads total x h ∙ taken total (element_next c.args.bracket x (map expr_of c.elements.made)) c.in-Some.ensures.token (omega (arith, h))) (c.in_err-inner-2.ensures.reads total (ForElement c.args.bracket (map expr_of c.elements.made) x) (omega (arith, h))))
+returns-in_err-inner-2-clause-reads g c =
+    passes c.args.levels expr_of (need c.args.bracket) behind _ _ c.from_residual-in_err-inner-2.result _ c.from_residual-in_err-inner-2.ensures.1
+    (λ total x h. from_there _ _ _ (c.elements.invariant.reads total x h
+    ∙ taken total (element_next c.args.bracket x (map expr_of c.elements.made)) c.in-Some.ensures.token (omega (arith, h)))
+    (c.in_err-inner-2.ensures.reads total (ForElement c.args.bracket (map expr_of c.elements.made) x) (omega (arith, h))))
 
 pub elements-preserved : goal.elements-preserved
 elements-preserved g c = record {
   within = search rules;
   reads = λ total x h.
-      c.elements.invariant.reads total x h ∙ taken total (element_next c.args.bracket x (map expr_of c.elements.made)) c.in-Some.ensures.token (omega (arith, h))
+      c.elements.invariant.reads total x h
+      ∙ taken total (element_next c.args.bracket x (map expr_of c.elements.made)) c.in-Some.ensures.token (omega (arith, h))
       ∙ c.in_ok-inner-2.ensures.reads total (ForElement c.args.bracket (map expr_of c.elements.made) x) (omega (arith, h))
       ∙ element_read c.args.bracket x (map expr_of c.elements.made) total (expr_of c.in_ok-inner-2.field-0) _
-      ∙ ap (λ l. walk total (ElementsRead c.args.bracket l x) c.inner-in-Some.new.tokens.rest.now) (sym (ap (map expr_of) c.in_ok-push-2.ensures.ok ∙ map-append expr_of c.elements.made (c.in_ok-inner-2.field-0 ∷ [])));
+      ∙ ap (λ l. walk total (ElementsRead c.args.bracket l x) c.inner-in-Some.new.tokens.rest.now)
+      (sym (ap (map expr_of) c.in_ok-push-2.ensures.ok ∙ map-append expr_of c.elements.made (c.in_ok-inner-2.field-0 ∷ [])));
 }
 
 pub returns-in_err-close-clause-reads : goal.returns-in_err-close-clause-reads
-returns-in_err-close-clause-reads g c = passes c.args.levels expr_of (need c.args.bracket) behind _ _ c.from_residual-in_err-close.result _ c.from_residual-in_err-close.ensures.1
+returns-in_err-close-clause-reads g c =
+    passes c.args.levels expr_of (need c.args.bracket) behind _ _ c.from_residual-in_err-close.result _ c.from_residual-in_err-close.ensures.1
     (λ total x h.
     let w = c.in_default.ensures.token in
     let m = c.in_err-close.ensures.token in

@@ -9,7 +9,8 @@ use Rattle.hy_expressions.proofs.expressions.Expressions.chain.Given as goal
 abbrev pub invariant-operators : goal.invariant-operators
 invariant-operators g l = record {
   within : length l.tokens.rest.now < length l.fn.tokens.rest.now;
-  reads : (total : ℕ) (u : Use) → l.self.levels + depth_use u ≡ most_levels → walk total (Operand (beginning u)) l.fn.tokens.rest.now ≡ walk total (Operated (expr_of l.operand) (tiers_of l.tiers) u) l.tokens.rest.now;
+  reads : (total : ℕ) (u : Use) → l.self.levels + depth_use u ≡ most_levels
+      → walk total (Operand (beginning u)) l.fn.tokens.rest.now ≡ walk total (Operated (expr_of l.operand) (tiers_of l.tiers) u) l.tokens.rest.now;
 }
 
 abbrev pub decreases-operators : goal.decreases-operators

@@ -30,23 +30,30 @@ pub choices-init : goal.choices-init
 choices-init g c = record {
   within = search rules;
   reads = λ total x h. c.in_ok-choice.ensures.reads total (there c.args.word.from [] x) h
-      ∙ ap (λ l. walk total (ChoiceElse c.args.word.from l x) c.choice.new.tokens.rest.now) (sym (ap (map choice_of) (c.in_ok-push.ensures.ok ∙ ap (λ l. l ++ c.in_ok-choice.field-0 ∷ []) c.new-made.ensures)));
+      ∙ ap (λ l. walk total (ChoiceElse c.args.word.from l x) c.choice.new.tokens.rest.now)
+      (sym (ap (map choice_of) (c.in_ok-push.ensures.ok ∙ ap (λ l. l ++ c.in_ok-choice.field-0 ∷ []) c.new-made.ensures)));
 }
 
 pub returns-in_err-choice-2-clause-reads : goal.returns-in_err-choice-2-clause-reads
-returns-in_err-choice-2-clause-reads g c = passes c.args.levels expr_of (need c.args.word) behind _ _ c.from_residual-in_err-choice-2.result _ c.from_residual-in_err-choice-2.ensures.1
-    (λ total x h. from_there _ _ _ (c.choices.invariant.reads total x h ∙ taken total (next_choice c.args.word.from (map choice_of c.choices.made) x) c.in-Some.ensures.token (omega (arith, h))) (c.in_err-choice-2.ensures.reads total (there c.args.word.from (map choice_of c.choices.made) x) h))
+returns-in_err-choice-2-clause-reads g c =
+    passes c.args.levels expr_of (need c.args.word) behind _ _ c.from_residual-in_err-choice-2.result _ c.from_residual-in_err-choice-2.ensures.1
+    (λ total x h. from_there _ _ _ (c.choices.invariant.reads total x h
+    ∙ taken total (next_choice c.args.word.from (map choice_of c.choices.made) x) c.in-Some.ensures.token (omega (arith, h)))
+    (c.in_err-choice-2.ensures.reads total (there c.args.word.from (map choice_of c.choices.made) x) h))
 
 pub choices-preserved : goal.choices-preserved
 choices-preserved g c = record {
   within = search rules;
-  reads = λ total x h. c.choices.invariant.reads total x h ∙ taken total (next_choice c.args.word.from (map choice_of c.choices.made) x) c.in-Some.ensures.token (omega (arith, h))
+  reads = λ total x h. c.choices.invariant.reads total x h
+      ∙ taken total (next_choice c.args.word.from (map choice_of c.choices.made) x) c.in-Some.ensures.token (omega (arith, h))
       ∙ c.in_ok-choice-2.ensures.reads total (there c.args.word.from (map choice_of c.choices.made) x) h
-      ∙ ap (λ l. walk total (ChoiceElse c.args.word.from l x) c.choice-in-Some.new.tokens.rest.now) (sym (ap (map choice_of) c.in_ok-push-2.ensures.ok ∙ map-append choice_of c.choices.made (c.in_ok-choice-2.field-0 ∷ [])));
+      ∙ ap (λ l. walk total (ChoiceElse c.args.word.from l x) c.choice-in-Some.new.tokens.rest.now)
+      (sym (ap (map choice_of) c.in_ok-push-2.ensures.ok ∙ map-append choice_of c.choices.made (c.in_ok-choice-2.field-0 ∷ [])));
 }
 
 pub returns-in_err-want-clause-reads : goal.returns-in_err-want-clause-reads
-returns-in_err-want-clause-reads g c = passes c.args.levels expr_of (need c.args.word) behind _ _ c.from_residual-in_err-want.result _ c.from_residual-in_err-want.ensures.1
+returns-in_err-want-clause-reads g c =
+    passes c.args.levels expr_of (need c.args.word) behind _ _ c.from_residual-in_err-want.result _ c.from_residual-in_err-want.ensures.1
     (λ total x h.
     let w = c.in_default.ensures.token in
     let m = c.in_err-want.ensures.token in
@@ -54,7 +61,8 @@ returns-in_err-want-clause-reads g c = passes c.args.levels expr_of (need c.args
     (stopped _ _ _ m.stops (no_choice c.args.word.from (map choice_of c.choices.made) x total _ (subst (λ l. Sees k.If l → ⊥) (sym w.1) w.0) m.lacks)))
 
 pub returns-in_err-otherwise-clause-reads : goal.returns-in_err-otherwise-clause-reads
-returns-in_err-otherwise-clause-reads g c = passes c.args.levels expr_of (need c.args.word) behind _ _ c.from_residual-in_err-otherwise.result _ c.from_residual-in_err-otherwise.ensures.1
+returns-in_err-otherwise-clause-reads g c =
+    passes c.args.levels expr_of (need c.args.word) behind _ _ c.from_residual-in_err-otherwise.result _ c.from_residual-in_err-otherwise.ensures.1
     (λ total x h.
     let w = c.in_default.ensures.token in
     from_there _ _ _ (c.choices.invariant.reads total x h ∙ ap (walk total _) (sym w.1)
@@ -62,7 +70,8 @@ returns-in_err-otherwise-clause-reads g c = passes c.args.levels expr_of (need c
     (c.in_err-otherwise.ensures.reads total (ForOtherwise c.args.word.from (map choice_of c.choices.made) x) h))
 
 pub returns-in_err-close-clause-reads : goal.returns-in_err-close-clause-reads
-returns-in_err-close-clause-reads g c = passes c.args.levels expr_of (need c.args.word) behind _ _ c.from_residual-in_err-close.result _ c.from_residual-in_err-close.ensures.1
+returns-in_err-close-clause-reads g c =
+    passes c.args.levels expr_of (need c.args.word) behind _ _ c.from_residual-in_err-close.result _ c.from_residual-in_err-close.ensures.1
     (λ total x h.
     let w = c.in_default.ensures.token in
     from_there _ _ _ (c.choices.invariant.reads total x h ∙ ap (walk total _) (sym w.1)
@@ -76,5 +85,6 @@ returns-clause-reads g c = λ total x h.
     c.choices.invariant.reads total x h ∙ ap (walk total _) (sym w.1)
     ∙ taken total (last_choice c.args.word.from (map choice_of c.choices.made) x) c.in_ok-want.ensures.token (omega (arith, h))
     ∙ c.in_ok-otherwise.ensures.reads total (ForOtherwise c.args.word.from (map choice_of c.choices.made) x) h
-    ∙ wanted total (wants_last_end c.args.word.from (map choice_of c.choices.made) x (expr_of c.in_ok-otherwise.otherwise)) c.in_ok-close.ensures.token (omega (arith, h))
+    ∙ wanted total (wants_last_end c.args.word.from (map choice_of c.choices.made) x (expr_of c.in_ok-otherwise.otherwise)) c.in_ok-close.ensures.token
+    (omega (arith, h))
     ∙ ap (λ e. walk total (Postfixed e [] 0 x) c.want-2.new.self.rest.now) (sym c.in_ok-if_else.ensures)

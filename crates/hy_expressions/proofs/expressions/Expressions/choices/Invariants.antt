@@ -9,7 +9,8 @@ abbrev pub invariant-choices : goal.invariant-choices
 invariant-choices g l = record {
   within : length l.tokens.rest.now ≤ length l.fn.tokens.rest.now;
   reads : (total : ℕ) (x : Spot) → l.levels + depth (Operand (beginning (ForCondition l.word.from [] l.word x))) ≡ most_levels
-      → walk total (Operand (beginning (ForCondition l.word.from [] l.word x))) l.fn.tokens.rest.now ≡ walk total (ChoiceElse l.word.from (map choice_of l.made) x) l.tokens.rest.now;
+      → walk total (Operand (beginning (ForCondition l.word.from [] l.word x))) l.fn.tokens.rest.now ≡ walk total
+      (ChoiceElse l.word.from (map choice_of l.made) x) l.tokens.rest.now;
 }
 
 abbrev pub decreases-choices : goal.decreases-choices

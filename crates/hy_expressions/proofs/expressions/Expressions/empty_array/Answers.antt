@@ -15,14 +15,16 @@ returns-in_err-inner-clause-reads g c = passes c.args.levels expr_of (ArrayWord 
     (λ total x h. unopened total (wants_type c.args.word x) _ _ _ c.in_err-inner.ensures.token (λ span none. omega (arith, h, none)))
 
 pub returns-in_err-element-clause-reads : goal.returns-in_err-element-clause-reads
-returns-in_err-element-clause-reads g c = passes c.args.levels expr_of (ArrayWord c.args.word) behind _ _ c.from_residual-in_err-element.result _ c.from_residual-in_err-element.ensures.1
+returns-in_err-element-clause-reads g c =
+    passes c.args.levels expr_of (ArrayWord c.args.word) behind _ _ c.from_residual-in_err-element.result _ c.from_residual-in_err-element.ensures.1
     (λ total x h.
     let o = c.in_ok-inner.ensures.token in
     from_there _ _ _ (wanted total (wants_type c.args.word x) o.0 (omega (arith, h, o.1)))
     (c.in_err-element.ensures.reads total (ForEmptyArray c.args.word x) (omega (arith, h, o.1))))
 
 pub returns-in_err-want-clause-reads : goal.returns-in_err-want-clause-reads
-returns-in_err-want-clause-reads g c = passes c.args.levels expr_of (ArrayWord c.args.word) behind _ _ c.from_residual-in_err-want.result _ c.from_residual-in_err-want.ensures.1
+returns-in_err-want-clause-reads g c =
+    passes c.args.levels expr_of (ArrayWord c.args.word) behind _ _ c.from_residual-in_err-want.result _ c.from_residual-in_err-want.ensures.1
     (λ total x h.
     let o = c.in_ok-inner.ensures.token in
     from_there _ _ _ (wanted total (wants_type c.args.word x) o.0 (omega (arith, h, o.1))
@@ -30,7 +32,8 @@ returns-in_err-want-clause-reads g c = passes c.args.levels expr_of (ArrayWord c
     (missed total (wants_type_end c.args.word x (type_of c.in_ok-element.element)) c.in_err-want.ensures.token))
 
 pub returns-in_err-want-2-clause-reads : goal.returns-in_err-want-2-clause-reads
-returns-in_err-want-2-clause-reads g c = passes c.args.levels expr_of (ArrayWord c.args.word) behind _ _ c.from_residual-in_err-want-2.result _ c.from_residual-in_err-want-2.ensures.1
+returns-in_err-want-2-clause-reads g c =
+    passes c.args.levels expr_of (ArrayWord c.args.word) behind _ _ c.from_residual-in_err-want-2.result _ c.from_residual-in_err-want-2.ensures.1
     (λ total x h.
     let o = c.in_ok-inner.ensures.token in
     from_there _ _ _ (wanted total (wants_type c.args.word x) o.0 (omega (arith, h, o.1))
@@ -39,7 +42,8 @@ returns-in_err-want-2-clause-reads g c = passes c.args.levels expr_of (ArrayWord
     (missed total (wants_open c.args.word x (type_of c.in_ok-element.element)) c.in_err-want-2.ensures.token))
 
 pub returns-in_err-close-clause-reads : goal.returns-in_err-close-clause-reads
-returns-in_err-close-clause-reads g c = passes c.args.levels expr_of (ArrayWord c.args.word) behind _ _ c.from_residual-in_err-close.result _ c.from_residual-in_err-close.ensures.1
+returns-in_err-close-clause-reads g c =
+    passes c.args.levels expr_of (ArrayWord c.args.word) behind _ _ c.from_residual-in_err-close.result _ c.from_residual-in_err-close.ensures.1
     (λ total x h.
     let o = c.in_ok-inner.ensures.token in
     from_there _ _ _ (wanted total (wants_type c.args.word x) o.0 (omega (arith, h, o.1))

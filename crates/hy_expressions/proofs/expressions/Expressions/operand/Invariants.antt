@@ -11,7 +11,8 @@ invariant-prefixes g l = record {
   within : length l.tokens.rest.now ≤ length l.fn.tokens.rest.now;
   spent : l.levels + length l.prefixes ≡ l.self.levels;
   reads : (total : ℕ) (tiers : Tiers) (u : Use) → l.self.levels + depth_use u ≡ most_levels
-      → walk total (Operand (InExpr no_prefixes tiers u)) l.fn.tokens.rest.now ≡ walk total (Operand (InExpr (with_operators (map prefix_at l.prefixes) None) tiers u)) l.tokens.rest.now;
+      → walk total (Operand (InExpr no_prefixes tiers u)) l.fn.tokens.rest.now ≡ walk total
+      (Operand (InExpr (with_operators (map prefix_at l.prefixes) None) tiers u)) l.tokens.rest.now;
 }
 
 abbrev pub decreases-prefixes : goal.decreases-prefixes

@@ -17,27 +17,34 @@ behind e spot = Postfixed e [] 0 spot
 pub returns-in-Some-clause-reads : goal.returns-in-Some-clause-reads
 returns-in-Some-clause-reads g c = λ total x h.
     taken total (parts_at_once c.args.bracket x) c.in-Some.ensures.token (omega (arith, h))
-    ∙ ap (λ e. walk total (Postfixed e [] 0 x) c.take.new.self.rest.now) (sym (c.parts-in-Some.ensures ∙ ap (λ l. node.parts c.args.bracket (map expr_of l) c.in-Some.close) c.new-made.ensures))
+    ∙ ap (λ e. walk total (Postfixed e [] 0 x) c.take.new.self.rest.now) (sym (c.parts-in-Some.ensures
+    ∙ ap (λ l. node.parts c.args.bracket (map expr_of l) c.in-Some.close) c.new-made.ensures))
 
 pub returns-in_err-inner-clause-reads : goal.returns-in_err-inner-clause-reads
 returns-in_err-inner-clause-reads g c = passes c.args.levels expr_of (PartsOpened c.args.bracket) behind _ _ c.from_residual.result _ c.from_residual.ensures.1
     (λ total x h.
     let w = c.in_default.ensures.token in
-    from_there _ _ _ (first_of_parts c.args.bracket x total _ w.0 ∙ ap (walk total _) (sym w.1)) (c.in_err-inner.ensures.reads total (ForPart c.args.bracket [] x) (omega (arith, h))))
+    from_there _ _ _ (first_of_parts c.args.bracket x total _ w.0 ∙ ap (walk total _) (sym w.1))
+    (c.in_err-inner.ensures.reads total (ForPart c.args.bracket [] x) (omega (arith, h))))
 
 pub parts-init : goal.parts-init
 parts-init g c = record {
   within = search rules;
   reads = λ total x h.
       let w = c.in_default.ensures.token in
-      first_of_parts c.args.bracket x total _ w.0 ∙ ap (walk total _) (sym w.1) ∙ c.in_ok-inner.ensures.reads total (ForPart c.args.bracket [] x) (omega (arith, h))
+      first_of_parts c.args.bracket x total _ w.0 ∙ ap (walk total _) (sym w.1)
+      ∙ c.in_ok-inner.ensures.reads total (ForPart c.args.bracket [] x) (omega (arith, h))
       ∙ part_read c.args.bracket x [] total (expr_of c.in_ok-inner.field-0) _
-      ∙ ap (λ l. walk total (PartsRead c.args.bracket l x) c.inner.new.tokens.rest.now) (sym (ap (map expr_of) (c.in_ok-push.ensures.ok ∙ ap (λ l. l ++ c.in_ok-inner.field-0 ∷ []) c.new-made.ensures)));
+      ∙ ap (λ l. walk total (PartsRead c.args.bracket l x) c.inner.new.tokens.rest.now)
+      (sym (ap (map expr_of) (c.in_ok-push.ensures.ok ∙ ap (λ l. l ++ c.in_ok-inner.field-0 ∷ []) c.new-made.ensures)));
 }
 
 pub returns-in_err-inner-2-clause-reads : goal.returns-in_err-inner-2-clause-reads
-returns-in_err-inner-2-clause-reads g c = passes c.args.levels expr_of (PartsOpened c.args.bracket) behind _ _ c.from_residual-in_err-inner-2.result _ c.from_residual-in_err-inner-2.ensures.1
-    (λ total x h. from_there _ _ _ (c.parts.invariant.reads total x h ∙ taken total (part_next c.args.bracket x (map expr_of c.parts.made)) c.in-Some-take.ensures.token (omega (arith, h))) (c.in_err-inner-2.ensures.reads total (ForPart c.args.bracket (map expr_of c.parts.made) x) (omega (arith, h))))
+returns-in_err-inner-2-clause-reads g c =
+    passes c.args.levels expr_of (PartsOpened c.args.bracket) behind _ _ c.from_residual-in_err-inner-2.result _ c.from_residual-in_err-inner-2.ensures.1
+    (λ total x h. from_there _ _ _ (c.parts.invariant.reads total x h
+    ∙ taken total (part_next c.args.bracket x (map expr_of c.parts.made)) c.in-Some-take.ensures.token (omega (arith, h)))
+    (c.in_err-inner-2.ensures.reads total (ForPart c.args.bracket (map expr_of c.parts.made) x) (omega (arith, h))))
 
 pub parts-preserved : goal.parts-preserved
 parts-preserved g c = record {
@@ -46,11 +53,13 @@ parts-preserved g c = record {
       c.parts.invariant.reads total x h ∙ taken total (part_next c.args.bracket x (map expr_of c.parts.made)) c.in-Some-take.ensures.token (omega (arith, h))
       ∙ c.in_ok-inner-2.ensures.reads total (ForPart c.args.bracket (map expr_of c.parts.made) x) (omega (arith, h))
       ∙ part_read c.args.bracket x (map expr_of c.parts.made) total (expr_of c.in_ok-inner-2.field-0) _
-      ∙ ap (λ l. walk total (PartsRead c.args.bracket l x) c.inner-in-Some-take.new.tokens.rest.now) (sym (ap (map expr_of) c.in_ok-push-2.ensures.ok ∙ map-append expr_of c.parts.made (c.in_ok-inner-2.field-0 ∷ [])));
+      ∙ ap (λ l. walk total (PartsRead c.args.bracket l x) c.inner-in-Some-take.new.tokens.rest.now)
+      (sym (ap (map expr_of) c.in_ok-push-2.ensures.ok ∙ map-append expr_of c.parts.made (c.in_ok-inner-2.field-0 ∷ [])));
 }
 
 pub returns-in_err-close-clause-reads : goal.returns-in_err-close-clause-reads
-returns-in_err-close-clause-reads g c = passes c.args.levels expr_of (PartsOpened c.args.bracket) behind _ _ c.from_residual-in_err-close.result _ c.from_residual-in_err-close.ensures.1
+returns-in_err-close-clause-reads g c =
+    passes c.args.levels expr_of (PartsOpened c.args.bracket) behind _ _ c.from_residual-in_err-close.result _ c.from_residual-in_err-close.ensures.1
     (λ total x h.
     let w = c.in_default-take.ensures.token in
     let m = c.in_err-close.ensures.token in

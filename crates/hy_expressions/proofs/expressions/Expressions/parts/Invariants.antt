@@ -7,7 +7,8 @@ use Rattle.hy_expressions.proofs.expressions.Expressions.parts.Given as goal
 abbrev pub invariant-parts : goal.invariant-parts
 invariant-parts g l = record {
   within : length l.tokens.rest.now ≤ length l.fn.tokens.rest.now;
-  reads : (total : ℕ) (x : Spot) → l.levels + depth (PartsOpened l.bracket x) ≡ most_levels → walk total (PartsOpened l.bracket x) l.fn.tokens.rest.now ≡ walk total (PartsRead l.bracket (map expr_of l.made) x) l.tokens.rest.now;
+  reads : (total : ℕ) (x : Spot) → l.levels + depth (PartsOpened l.bracket x) ≡ most_levels
+      → walk total (PartsOpened l.bracket x) l.fn.tokens.rest.now ≡ walk total (PartsRead l.bracket (map expr_of l.made) x) l.tokens.rest.now;
 }
 
 abbrev pub decreases-parts : goal.decreases-parts

@@ -20,18 +20,24 @@ abbrev there : List T.Step → ℕ → Spot → StepSpot
 there steps to spot = record { steps = steps; to = to; spot = spot }
 
 pub returns-in_err-primary-clause-reads : goal.returns-in_err-primary-clause-reads
-returns-in_err-primary-clause-reads g c = passes c.args.levels expr_of (need c.args.tokens.now.rest.now) (have c.args.tokens.now.rest.now) _ _ c.from_residual.result _ c.from_residual.ensures.1
+returns-in_err-primary-clause-reads g c =
+    passes c.args.levels expr_of (need c.args.tokens.now.rest.now) (have c.args.tokens.now.rest.now) _ _ c.from_residual.result _ c.from_residual.ensures.1
     (λ total x h. c.in_err-primary.ensures.reads total x h)
 
 pub steps-init : goal.steps-init
 steps-init g c = record {
   within = search rules;
-  reads = λ total x h. c.in_ok-primary.ensures.reads total x h ∙ ap (λ l. walk total (Postfixed (expr_of c.in_ok-primary.primary) l 0 x.spot) c.primary.new.tokens.rest.now) (sym (ap (map step_of) c.new-steps.ensures));
+  reads = λ total x h. c.in_ok-primary.ensures.reads total x h
+      ∙ ap (λ l. walk total (Postfixed (expr_of c.in_ok-primary.primary) l 0 x.spot) c.primary.new.tokens.rest.now)
+      (sym (ap (map step_of) c.new-steps.ensures));
 }
 
 pub returns-in_err-step-clause-reads : goal.returns-in_err-step-clause-reads
-returns-in_err-step-clause-reads g c = passes c.args.levels expr_of (need c.args.tokens.now.rest.now) (have c.args.tokens.now.rest.now) _ _ c.from_residual-in_err-step.result _ c.from_residual-in_err-step.ensures.1
-    (λ total x h. from_there _ _ _ (c.steps.invariant.reads total x h) (c.in_err-step.ensures.reads total (there (map step_of c.steps.steps) c.steps.to x.spot) h))
+returns-in_err-step-clause-reads g c =
+    passes c.args.levels expr_of (need c.args.tokens.now.rest.now) (have c.args.tokens.now.rest.now) _ _ c.from_residual-in_err-step.result _
+    c.from_residual-in_err-step.ensures.1
+    (λ total x h. from_there _ _ _ (c.steps.invariant.reads total x h)
+    (c.in_err-step.ensures.reads total (there (map step_of c.steps.steps) c.steps.to x.spot) h))
 
 pub steps-preserved : goal.steps-preserved
 steps-preserved g c = record {
@@ -39,13 +45,16 @@ steps-preserved g c = record {
   reads = λ total x h.
       c.steps.invariant.reads total x h
       ∙ c.in_ok-step.ensures.reads total (there (map step_of c.steps.steps) c.steps.to x.spot) h
-      ∙ ap (λ o. walk total (after_step (expr_of c.in_ok-primary.primary) (option_map step_of o) (there (map step_of c.steps.steps) c.steps.to x.spot)) c.step.new.tokens.rest.now) c.in-Some.is
-      ∙ step_pushed total (expr_of c.in_ok-primary.primary) c.steps.steps c.push.new.self c.steps.to c.in-Some.step x.spot c.step.new.tokens.rest.now c.in_ok-push.ensures.ok;
+      ∙ ap (λ o. walk total (after_step (expr_of c.in_ok-primary.primary) (option_map step_of o) (there (map step_of c.steps.steps) c.steps.to x.spot))
+      c.step.new.tokens.rest.now) c.in-Some.is
+      ∙ step_pushed total (expr_of c.in_ok-primary.primary) c.steps.steps c.push.new.self c.steps.to c.in-Some.step x.spot c.step.new.tokens.rest.now
+      c.in_ok-push.ensures.ok;
 }
 
 pub returns-clause-reads : goal.returns-clause-reads
 returns-clause-reads g c = λ total x h.
     c.steps.invariant.reads total x h
     ∙ c.in_ok-step.ensures.reads total (there (map step_of c.steps.steps) c.steps.to x.spot) h
-    ∙ ap (λ o. walk total (after_step (expr_of c.in_ok-primary.primary) (option_map step_of o) (there (map step_of c.steps.steps) c.steps.to x.spot)) c.step.new.tokens.rest.now) c.in_default.is
+    ∙ ap (λ o. walk total (after_step (expr_of c.in_ok-primary.primary) (option_map step_of o) (there (map step_of c.steps.steps) c.steps.to x.spot))
+    c.step.new.tokens.rest.now) c.in_default.is
     ∙ ap (λ e. walk total (operated e x.spot) c.step.new.tokens.rest.now) (sym c.in_ok-postfix.ensures)

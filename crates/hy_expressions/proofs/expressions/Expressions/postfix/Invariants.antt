@@ -8,7 +8,8 @@ use Rattle.hy_expressions.proofs.expressions.Expressions.postfix.Given as goal
 abbrev pub invariant-steps : goal.invariant-steps
 invariant-steps g l = record {
   within : length l.tokens.rest.now < length l.fn.tokens.rest.now;
-  reads : (total : ℕ) (x : PostfixSpot l.fn.tokens.rest.now) → l.levels + depth_spot x.spot ≡ most_levels → walk total (Operand x.spot) l.fn.tokens.rest.now ≡ walk total (Postfixed (expr_of l.primary) (map step_of l.steps) l.to x.spot) l.tokens.rest.now;
+  reads : (total : ℕ) (x : PostfixSpot l.fn.tokens.rest.now) → l.levels + depth_spot x.spot ≡ most_levels
+      → walk total (Operand x.spot) l.fn.tokens.rest.now ≡ walk total (Postfixed (expr_of l.primary) (map step_of l.steps) l.to x.spot) l.tokens.rest.now;
 }
 
 abbrev pub decreases-steps : goal.decreases-steps

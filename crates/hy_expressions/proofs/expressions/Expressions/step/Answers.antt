@@ -16,18 +16,23 @@ returns-in_default-clause-reads g c = λ total x h. postfix_left total (expr_of 
 
 pub returns-in_default-kind : goal.returns-in_default-kind
 returns-in_default-kind g c = record {
-  reads = λ total x h. postfix_ends total (expr_of c.args.primary.now) x.steps x.to x.spot c.in-Some.token.now _ _ c.in-Some.ensures.token c.in_default-kind.not-Dot c.in_default-kind.not-LeftParen c.in_default-kind.not-LeftBracket;
+  reads = λ total x h. postfix_ends total (expr_of c.args.primary.now) x.steps x.to x.spot c.in-Some.token.now _ _ c.in-Some.ensures.token
+      c.in_default-kind.not-Dot c.in_default-kind.not-LeftParen c.in_default-kind.not-LeftBracket;
   within = search rules;
   progress = tt;
 }
 
 pub returns-in_err-dotted-in-Dot-clause-reads : goal.returns-in_err-dotted-in-Dot-clause-reads
-returns-in_err-dotted-in-Dot-clause-reads g c = passes c.args.levels (option_map step_of) (λ x. need x (expr_of c.args.primary.now)) (after_step (expr_of c.args.primary.now)) _ _ c.from_residual.result _ c.from_residual.ensures.1
+returns-in_err-dotted-in-Dot-clause-reads g c =
+    passes c.args.levels (option_map step_of) (λ x. need x (expr_of c.args.primary.now)) (after_step (expr_of c.args.primary.now)) _ _
+    c.from_residual.result _ c.from_residual.ensures.1
     (λ total x h.
-    from_there _ _ _ (over_dot total (expr_of c.args.primary.now) x.steps x.spot c.in-Some.token.now _ _ (took _ _ _ c.in-Some.ensures.token c.skip.ensures.rest) c.args.levels h x.to c.in-Dot.is)
+    from_there _ _ _ (over_dot total (expr_of c.args.primary.now) x.steps x.spot c.in-Some.token.now _ _
+    (took _ _ _ c.in-Some.ensures.token c.skip.ensures.rest) c.args.levels h x.to c.in-Dot.is)
     (c.in_err-dotted-in-Dot.ensures.reads c.args.levels total x h))
 
 pub returns-in_ok-dotted-in-Dot-clause-reads : goal.returns-in_ok-dotted-in-Dot-clause-reads
 returns-in_ok-dotted-in-Dot-clause-reads g c = λ total x h.
-    over_dot total (expr_of c.args.primary.now) x.steps x.spot c.in-Some.token.now _ _ (took _ _ _ c.in-Some.ensures.token c.skip.ensures.rest) c.args.levels h x.to c.in-Dot.is
+    over_dot total (expr_of c.args.primary.now) x.steps x.spot c.in-Some.token.now _ _ (took _ _ _ c.in-Some.ensures.token c.skip.ensures.rest)
+    c.args.levels h x.to c.in-Dot.is
     ∙ c.in_ok-dotted-in-Dot.ensures.reads c.args.levels total x h

@@ -8,7 +8,13 @@ pub index_mut-requires : goal.index_mut-requires
 index_mut-requires c = live_slot order c.self.inside.slots c.self.inside.newest c.self.invariant c.args.act.slot (rw (c.self.view_is) c.requires)
 
 pub invariant_of-self : goal.invariant_of-self
-invariant_of-self c = (touched order c.self.inside.slots _ c.self.inside.newest c.args.act.slot (λ slot. record slot { code_place = c.args.place }) (gone_to c.args.place) c.self.invariant (changes_written c.self.inside.slots c.args.act.slot c.index_mut.result.now (λ slot. record slot { code_place = c.args.place }) c.index_mut.ensures.value) (λ slot. refl) (λ slot. refl) (λ slot. refl)).linked
+invariant_of-self c =
+    (touched order c.self.inside.slots _ c.self.inside.newest c.args.act.slot (λ slot. record slot { code_place = c.args.place }) (gone_to c.args.place)
+    c.self.invariant (changes_written c.self.inside.slots c.args.act.slot c.index_mut.result.now (λ slot. record slot { code_place = c.args.place })
+    c.index_mut.ensures.value) (λ slot. refl) (λ slot. refl) (λ slot. refl)).linked
 
 pub returns : goal.returns
-returns c = rw (← c.self.view_is) (touched order c.self.inside.slots _ c.self.inside.newest c.args.act.slot (λ slot. record slot { code_place = c.args.place }) (gone_to c.args.place) c.self.invariant (changes_written c.self.inside.slots c.args.act.slot c.index_mut.result.now (λ slot. record slot { code_place = c.args.place }) c.index_mut.ensures.value) (λ slot. refl) (λ slot. refl) (λ slot. refl)).lists
+returns c = rw (← c.self.view_is) (touched order c.self.inside.slots _ c.self.inside.newest c.args.act.slot
+    (λ slot. record slot { code_place = c.args.place }) (gone_to c.args.place) c.self.invariant
+    (changes_written c.self.inside.slots c.args.act.slot c.index_mut.result.now (λ slot. record slot { code_place = c.args.place })
+    c.index_mut.ensures.value) (λ slot. refl) (λ slot. refl) (λ slot. refl)).lists

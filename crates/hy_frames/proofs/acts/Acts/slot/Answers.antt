@@ -6,4 +6,5 @@ pub index-requires : goal.index-requires
 index-requires c = live_slot order c.self.inside.slots c.self.inside.newest c.self.invariant c.args.act.slot (rw (c.self.view_is) c.requires)
 
 pub returns : goal.returns
-returns c = rw (← c.self.view_is) (live_held order c.self.inside.slots c.self.inside.newest c.self.invariant c.args.act.slot c.index.result.now (rw (c.self.view_is) c.requires) c.index.ensures)
+returns c = rw (← c.self.view_is) (live_held order c.self.inside.slots c.self.inside.newest c.self.invariant c.args.act.slot c.index.result.now
+    (rw (c.self.view_is) c.requires) c.index.ensures)

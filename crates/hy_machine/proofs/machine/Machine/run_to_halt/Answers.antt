@@ -19,4 +19,5 @@ loop-self-preserved g c = (
 )
 
 pub returns-clause-leads : goal.returns-clause-leads
-returns-clause-leads g c = runs_off c.args.object.now c.args.self.now c.loop-self.self _ _ c.args.instrs.now c.loop-self.invariant.0 c.requires.main c.loop-self-test.false
+returns-clause-leads g c =
+    runs_off c.args.object.now c.args.self.now c.loop-self.self _ _ c.args.instrs.now c.loop-self.invariant.0 c.requires.main c.loop-self-test.false

@@ -7,7 +7,8 @@ use Rattle.hy_phrases.proofs.types.Types.tuple.Given as goal
 abbrev pub invariant-parts : goal.invariant-parts
 invariant-parts g l = record {
   within : length l.tokens.rest.now ≤ length l.fn.tokens.rest.now;
-  reads : (total : ℕ) (u : TypeUse) → l.levels + (depth_type u + 1) ≡ most_levels → walk total (TypesOpened l.bracket u) l.fn.tokens.rest.now ≡ walk total (TypesRead l.bracket (map type_of l.parts) u) l.tokens.rest.now;
+  reads : (total : ℕ) (u : TypeUse) → l.levels + (depth_type u + 1) ≡ most_levels
+      → walk total (TypesOpened l.bracket u) l.fn.tokens.rest.now ≡ walk total (TypesRead l.bracket (map type_of l.parts) u) l.tokens.rest.now;
 }
 
 abbrev pub decreases-parts : goal.decreases-parts

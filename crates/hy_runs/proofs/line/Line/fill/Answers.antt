@@ -14,7 +14,8 @@ returns-in_err-byte-clause-fills g c =
 pub returns-in_default-clause-fills : goal.returns-in_default-clause-fills
 returns-in_default-clause-fills g c =
     let room : c.loop.counter < 4097 = omega arith in
-    at_input _ _ _ _ _ c.loop.invariant.0 room (subst (λ o. StillTells (g.I.Source.tells c.loop.input) (g.I.Source.tells c.next.new.self) (Takes (Ok o))) c.in_default.is c.in_ok-byte.ensures.bytes)
+    at_input _ _ _ _ _ c.loop.invariant.0 room (subst (λ o. StillTells (g.I.Source.tells c.loop.input) (g.I.Source.tells c.next.new.self) (Takes (Ok o)))
+    c.in_default.is c.in_ok-byte.ensures.bytes)
 
 pub returns-then-byte-eq10-clause-fills : goal.returns-then-byte-eq10-clause-fills
 returns-then-byte-eq10-clause-fills g c =

@@ -2,20 +2,33 @@ use Rattle.std.proofs.Common.{◌∙◌, ◌∷◌, [], refl, rules, SFits, w64}
 use Rattle.std.proofs.lemmas.Int.{to_z-of_z}
 use Rattle.hy_object.specs.declared.stuck.Kind.TheVariants as kind
 use Rattle.hy_object.specs.Checks.{Reach, check, is_nameless, store}
+use Rattle.hy_store.specs.Executes.{InPlace}
 use Rattle.hy_store.specs.Cells.{Word}
-use Rattle.hy_store.specs.Sees.{seen, Stores}
+use Rattle.hy_store.specs.Represents.{represented, Stores}
 use Rattle.hy_store.proofs.Following.{checked, told_halt}
 use Rattle.hy_store.proofs.Storing.{writes_word}
 use Rattle.hy_store.proofs.store.Store.constant.Goals as goal
 
 pub returns-in_err-reach : goal.returns-in_err-reach
-returns-in_err-reach c = told_halt _ _ _ _ _ _ c.from_residual.ensures.1 (λ g s sees. c.in_err-reach.ensures.checks g s sees (λ x. check s kind.Lost (is_nameless s x.range) (store s x c.args.value)))
+returns-in_err-reach c =
+    told_halt InPlace _ _ _ _ _ _ c.from_residual.ensures.1 (λ g s represents. c.in_err-reach.ensures.checks g s represents
+    (λ x. check s kind.Lost (is_nameless s x.range) (store s x c.args.value)))
 
 pub returns-in_err-check : goal.returns-in_err-check
-returns-in_err-check c = told_halt _ _ _ _ _ _ c.from_residual-in_err-check.ensures.1 (λ g s sees. let x : Reach = seen g s c.in_ok-reach.reach in c.in_ok-reach.ensures.checks g s sees (λ x. check s kind.Lost (is_nameless s x.range) (store s x c.args.value)) ∙ checked s kind.Lost _ _ (store s x c.args.value) _ (c.is_nameless.ensures g s sees) (c.in_err-check.ensures s _))
+returns-in_err-check c = told_halt InPlace _ _ _ _ _ _ c.from_residual-in_err-check.ensures.1 (λ g s represents. let x : Reach =
+    represented g s c.in_ok-reach.reach in
+    c.in_ok-reach.ensures.checks g s represents (λ x. check s kind.Lost (is_nameless s x.range) (store s x c.args.value))
+    ∙ checked s kind.Lost _ _ (store s x c.args.value) _ (c.is_nameless.ensures g s represents) (c.in_err-check.ensures s _))
 
 pub returns : goal.returns
 returns c =
     let reached = c.in_ok-reach.ensures.reached in
-    let fits : SFits w64 c.args.value = search rules in let put : Stores c.args.self.now c.put.new.self c.in_ok-reach.reach.range (Word c.args.value ∷ []) = rw (to_z-of_z w64 c.args.value fits) at c.put.ensures in
-    writes_word _ _ _ c.in_ok-reach.reach.range c.args.value _ (λ g s. seen g s c.in_ok-reach.reach) put reached.cells reached.len (λ g s sees. (refl, let x : Reach = seen g s c.in_ok-reach.reach in c.in_ok-reach.ensures.checks g s sees (λ x. check s kind.Lost (is_nameless s x.range) (store s x c.args.value)) ∙ checked s kind.Lost _ _ (store s x c.args.value) _ (c.is_nameless.ensures g s sees) (c.in_ok-check.ensures s _)))
+    let fits : SFits w64 c.args.value = search rules in let put : Stores c.args.self.now c.put.new.self c.in_ok-reach.reach.range (Word c.args.value ∷ []) =
+    rw (to_z-of_z w64 c.args.value fits) at c.put.ensures in
+    writes_word _ _ _ c.in_ok-reach.reach.range c.args.value _ (λ g s. represented g s c.in_ok-reach.reach) put reached.cells reached.len
+    (λ g s represents. (
+      refl,
+      let x : Reach = represented g s c.in_ok-reach.reach in
+          c.in_ok-reach.ensures.checks g s represents (λ x. check s kind.Lost (is_nameless s x.range) (store s x c.args.value))
+          ∙ checked s kind.Lost _ _ (store s x c.args.value) _ (c.is_nameless.ensures g s represents) (c.in_ok-check.ensures s _),
+    ))

@@ -1,6 +1,6 @@
 use Rattle.std.proofs.Common.{◌≡◌, ◌<◌, ℕ, Some, length, slice_get}
 use Rattle.hy_store.specs.Frames.{kept}
-use Rattle.hy_store.specs.Sees.{first_slot}
+use Rattle.hy_store.specs.Represents.{first_slot}
 use Rattle.hy_store.proofs.store.Store.first_slots.Given as goal
 
 abbrev pub invariant-loop-k : goal.invariant-loop-k

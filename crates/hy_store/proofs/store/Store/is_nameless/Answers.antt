@@ -3,4 +3,5 @@ use Rattle.hy_store.proofs.Wholes.{nameless_is}
 use Rattle.hy_store.proofs.store.Store.is_nameless.Goals as goal
 
 pub returns : goal.returns
-returns c = λ g s sees. nameless_is g c.args.self.now c.args.fun.now s sees c.args.reach.range c.cells.result.now c.cells.ensures ∙ sym c.are_nameless.ensures
+returns c = λ g s represents. nameless_is g c.args.self.now c.args.fun.now s represents c.args.reach.range c.cells.result.now c.cells.ensures
+    ∙ sym c.are_nameless.ensures

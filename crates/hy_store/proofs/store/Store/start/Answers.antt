@@ -13,7 +13,8 @@ returns-clause-starts c = record {
   is = c.cells.ensures;
   size = row_length (live c.args.self.now.blocks) c.args.reach.range c.cells.result.now c.cells.ensures;
   slots = c.in_ok-slots.ensures;
-  takes = λ b. c.in_ok-take.ensures.taken b ∙ ap (λ (cs : List Cell). with_block (live c.args.self.now.blocks) c.args.self.now.counts.blocks (Some cs) b) c.in_ok-cells.ensures;
+  takes = λ b. c.in_ok-take.ensures.taken b
+      ∙ ap (λ (cs : List Cell). with_block (live c.args.self.now.blocks) c.args.self.now.counts.blocks (Some cs) b) c.in_ok-cells.ensures;
   unsets = c.unset.ensures;
   keeps = c.in_ok-take-2.ensures.taken;
   opened = refl;
@@ -21,8 +22,10 @@ returns-clause-starts c = record {
   counts = simp add-one;
 }
 
-pub returns-clause-seen : goal.returns-clause-seen
-returns-clause-seen c = λ fun g s sees number left. (
-  started c.args.self.now _ fun c.args.callee.now c.args.slot c.args.reach.range c.args.role (returns-clause-starts c) c.requires.cells c.requires.owned (search rules) c.requires.lent g s sees,
-  started_seen c.args.self.now _ fun c.args.callee.now c.args.slot c.args.reach.range c.args.role (returns-clause-starts c) c.requires.cells c.requires.owned (search rules) c.requires.lent g s sees number left,
+pub returns-clause-represented : goal.returns-clause-represented
+returns-clause-represented c = λ fun g s represents number left. (
+  started c.args.self.now _ fun c.args.callee.now c.args.slot c.args.reach.range c.args.role (returns-clause-starts c) c.requires.cells c.requires.owned
+      (search rules) c.requires.lent g s represents,
+  started_seen c.args.self.now _ fun c.args.callee.now c.args.slot c.args.reach.range c.args.role (returns-clause-starts c) c.requires.cells
+      c.requires.owned (search rules) c.requires.lent g s represents number left,
 )

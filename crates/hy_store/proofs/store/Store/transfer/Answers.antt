@@ -1,6 +1,6 @@
 use Rattle.std.proofs.Common.{subst}
 use Rattle.hy_store.specs.Memory.{live}
-use Rattle.hy_store.specs.Sees.{Stores}
+use Rattle.hy_store.specs.Represents.{Stores}
 use Rattle.hy_store.proofs.Wholes.{row_length}
 use Rattle.hy_store.proofs.store.Store.transfer.Goals as goal
 

@@ -20,12 +20,15 @@ all_below-returns-then-not-is_below t c =
     let d : TyId = record { at = 0 } in
     let i = c.loop-id.id-index in (
       λ e. absurd (true≢false (sym e)),
-      λ h. sym c.if-not-is_below.true ∙ c.is_below.ensures.1 (parameters_at c.args.self.now c.args.count c.args.ids.now i (get_or c.args.ids.now i d) h (slice_get-get_or c.args.ids.now i d c.loop-id-test.true)),
+      λ h. sym c.if-not-is_below.true
+          ∙ c.is_below.ensures.1 (parameters_at c.args.self.now c.args.count c.args.ids.now i (get_or c.args.ids.now i d) h
+          (slice_get-get_or c.args.ids.now i d c.loop-id-test.true)),
     )
 
 pub all_below-loop-id-preserved : goal.all_below-loop-id-preserved
 all_below-loop-id-preserved t c =
-    parameters_more c.args.count c.args.self.now c.args.ids.now c.loop-id.id-index (record { at = 0 }) c.loop-id-test.true c.loop-id.invariant (c.is_below.ensures.0 c.if-not-is_below.false)
+    parameters_more c.args.count c.args.self.now c.args.ids.now c.loop-id.id-index (record { at = 0 }) c.loop-id-test.true c.loop-id.invariant
+    (c.is_below.ensures.0 c.if-not-is_below.false)
 
 pub is_below-all_below-requires : goal.is_below-all_below-requires
 is_below-all_below-requires t c =

@@ -10,15 +10,18 @@ use Rattle.hy_types.proofs.table.TyTable.all_declared.Goals.{in-Product+else-not
 
 pub returns-then-not-is_declared : goal.returns-then-not-is_declared
 returns-then-not-is_declared c =
-    let l : c.loop-row.row-index < length c.args.self.now.types = subst (λ (rows : List Ty). c.loop-row.row-index < length rows) c.rows-row-items.ensures c.loop-row-test.true in
+    let l : c.loop-row.row-index < length c.args.self.now.types =
+    subst (λ (rows : List Ty). c.loop-row.row-index < length rows) c.rows-row-items.ensures c.loop-row-test.true in
     let at = read_at c.args.self.now.types c.rows-row-items.result.now c.loop-row.row-index c.row-item.result c.rows-row-items.ensures l c.row-item.is in (
       λ e. absurd (true≢false (sym e)),
-      λ each. sym c.if-not-is_declared.true ∙ c.is_declared.ensures.1 (each c.in-Product.declaration (record { at = c.loop-row.row-index }) (at ∙ ap Some c.in-Product.is)),
+      λ each. sym c.if-not-is_declared.true
+          ∙ c.is_declared.ensures.1 (each c.in-Product.declaration (record { at = c.loop-row.row-index }) (at ∙ ap Some c.in-Product.is)),
     )
 
 pub loop-row-preserved : goal.loop-row-preserved
 loop-row-preserved c =
-    let l : c.loop-row.row-index < length c.args.self.now.types = subst (λ (rows : List Ty). c.loop-row.row-index < length rows) c.rows-row-items.ensures c.loop-row-test.true in
+    let l : c.loop-row.row-index < length c.args.self.now.types =
+    subst (λ (rows : List Ty). c.loop-row.row-index < length rows) c.rows-row-items.ensures c.loop-row-test.true in
     let at = read_at c.args.self.now.types c.rows-row-items.result.now c.loop-row.row-index c.row-item.result c.rows-row-items.ensures l c.row-item.is in
     declared_more c.args.self.now c.loop-row.row-index c.row-item.result at c.loop-row.invariant (λ declaration e.
     elim c.match-row.branch [

@@ -8,13 +8,15 @@ pub returns-clause-equal : goal.returns-clause-equal
 returns-clause-equal c =
     let good = subst (λ (t : Table). AreRows (reverse t.types)) c.self.view_is c.self.invariant.rows in
     type_at c.args.self.now good c.args.id c.index-as_slice-id.result
-    (read_at c.args.self.now.types c.as_slice.result.now c.args.id.at c.index-as_slice-id.result (c.as_slice.ensures.keys ∙ ap (λ (t : Table). t.types) c.self.view_is) c.requires c.index-as_slice-id.is)
+    (read_at c.args.self.now.types c.as_slice.result.now c.args.id.at c.index-as_slice-id.result (c.as_slice.ensures.keys
+    ∙ ap (λ (t : Table). t.types) c.self.view_is) c.requires c.index-as_slice-id.is)
 
 pub returns-clause-before : goal.returns-clause-before
 returns-clause-before c =
     let good = subst (λ (t : Table). AreRows (reverse t.types)) c.self.view_is c.self.invariant.rows in
     mentions c.args.self.now good c.args.id c.index-as_slice-id.result
-    (read_at c.args.self.now.types c.as_slice.result.now c.args.id.at c.index-as_slice-id.result (c.as_slice.ensures.keys ∙ ap (λ (t : Table). t.types) c.self.view_is) c.requires c.index-as_slice-id.is)
+    (read_at c.args.self.now.types c.as_slice.result.now c.args.id.at c.index-as_slice-id.result (c.as_slice.ensures.keys
+    ∙ ap (λ (t : Table). t.types) c.self.view_is) c.requires c.index-as_slice-id.is)
 
 pub returns-clause-once : goal.returns-clause-once
 returns-clause-once c = λ other l e.

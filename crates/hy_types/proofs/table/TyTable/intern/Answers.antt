@@ -15,12 +15,15 @@ invariant_of-self-then-added c =
     let types = c.self.inside.types.keys in
     let entries = c.self.inside.products.entries in
     let sizes = c.self.inside.sizes.items in
-    let below : AllBelow (length types) (mentioned c.args.ty) = subst (λ (t : Table). AllBelow (length t.types) (mentioned c.args.ty)) (sym c.self.view_is) c.requires in
-    let fresh = added_new c.args.ty types c.insert_full.new.self.keys c.in_ok-place.added c.if-added.true c.in_ok-place.ensures.added c.in_ok-place.ensures.keys in
+    let below : AllBelow (length types) (mentioned c.args.ty) =
+    subst (λ (t : Table). AllBelow (length t.types) (mentioned c.args.ty)) (sym c.self.view_is) c.requires in
+    let fresh = added_new c.args.ty types c.insert_full.new.self.keys c.in_ok-place.added c.if-added.true c.in_ok-place.ensures.added
+    c.in_ok-place.ensures.keys in
     let held : c.reserve.new.self.items ≡ sizes = c.in_ok-reserve.ensures.items in
     let read : c.as_slice.result.now ≡ sizes = c.as_slice.ensures.value ∙ held in
     let pushed : c.push.new.self.items ≡ sizes ++ c.size_of-size.result ∷ [] =
-    c.push.ensures.items ∙ ap (λ r. if is_ok r then c.reserve.new.self.items ++ c.size_of-size.result ∷ [] else c.reserve.new.self.items) c.unwrap.ensures ∙ ap (λ l. l ++ c.size_of-size.result ∷ []) held in
+    c.push.ensures.items ∙ ap (λ r. if is_ok r then c.reserve.new.self.items ++ c.size_of-size.result ∷ [] else c.reserve.new.self.items) c.unwrap.ensures
+    ∙ ap (λ l. l ++ c.size_of-size.result ∷ []) held in
     let room : length types < 2 ^ 32 - 1 = omega (arith, c.if-len.false, c.len.ensures.len) in
     subst (λ (rows : List Ty). IsKept (record { types = rows; products = entries }) c.push.new.self.items) (sym fresh.1)
     (subst (λ (s : List Size). IsKept (record { types = types ++ c.args.ty ∷ []; products = entries }) s) (sym pushed)

@@ -14,4 +14,5 @@ returns-in-Tuple-clause-known c =
 pub returns-in-Some-clause-known : goal.returns-in-Some-clause-known
 returns-in-Some-clause-known c =
     subst (λ (t : Table). HasIds t c.as_slice-in-Some.result.now) c.self.view_is
-    (c.self.invariant.parts c.in-Product.declaration c.as_slice-in-Some.result.now (sym c.get-in-Product.ensures.value ∙ ap option_copied c.in-Some.is ∙ ap Some (sym c.as_slice-in-Some.ensures)))
+    (c.self.invariant.parts c.in-Product.declaration c.as_slice-in-Some.result.now (sym c.get-in-Product.ensures.value ∙ ap option_copied c.in-Some.is
+    ∙ ap Some (sym c.as_slice-in-Some.ensures)))

@@ -20,4 +20,8 @@ returns-in-Pending c =
     let kept = subst (λ (t : Table). IsKept t c.self.inside.sizes.items) c.self.view_is c.self.invariant in
     let l : c.args.id.at < length c.self.inside.sizes.items = omega (arith, kept.long, c.requires.known) in
     let at = read_at c.self.inside.sizes.items c.self.inside.sizes.items c.args.id.at c.index.result.now refl l c.index.ensures in
-    record { some = tt; none = (λ e. no_words c.args.self.now c.self.inside.sizes.items kept c.args.id c.index.result.now c.requires.declared at c.in-Pending.is, λ h. refl) }
+    record {
+      some = tt;
+      none =
+          (λ e. no_words c.args.self.now c.self.inside.sizes.items kept c.args.id c.index.result.now c.requires.declared at c.in-Pending.is, λ h. refl);
+    }

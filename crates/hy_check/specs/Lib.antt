@@ -1,0 +1,12 @@
+pub mod Declarations
+pub mod Endless
+pub mod Facts
+pub mod Phrases
+pub mod PlainTypes
+pub mod Places
+pub mod Postfix
+pub mod Refusals
+pub mod Returns
+pub mod Signatures
+pub mod Typing
+pub mod Uses

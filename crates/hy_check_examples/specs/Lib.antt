@@ -1,0 +1,3 @@
+pub mod Programs
+pub mod Reader
+pub mod Rows

@@ -1,0 +1,79 @@
+use Rattle.std.proofs.Common.{refl}
+use Rattle.hy_core.proofs.laws.flow_examples.Goals as goal
+
+pub returns-clause-calm : goal.returns-clause-calm
+returns-clause-calm c = record {
+  field = refl;
+  element = refl;
+  twice = refl;
+  inout = refl;
+  set = refl;
+  copy = refl;
+  first = refl;
+  last = refl;
+  at_close =
+      refl;
+  trap = refl;
+  set_variant = refl;
+  early_end = refl;
+  old_element = refl;
+  whole = refl;
+  in_part = refl;
+  rows = refl;
+  tree = refl;
+  loop = refl;
+  left =
+      refl;
+  index = refl;
+  array = refl;
+  operations = λ a b. (refl, refl, refl, refl, refl);
+  precondition = refl;
+}
+
+pub returns-clause-wild : goal.returns-clause-wild
+returns-clause-wild c = record {
+  stale = refl;
+  under_reader = refl;
+  by_reader = refl;
+  by_callee = refl;
+  by_projection = refl;
+  lent_on = refl;
+  moved =
+      refl;
+  dropped = refl;
+  writers = refl;
+  again = refl;
+  over = refl;
+  early = refl;
+  shut = refl;
+  handed = refl;
+  yielded = refl;
+}
+
+pub returns-clause-flawed : goal.returns-clause-flawed
+returns-clause-flawed c = record {
+  elements = refl;
+  moved = refl;
+  index = refl;
+  over = refl;
+  copied = refl;
+  read = refl;
+  dropped = refl;
+  left =
+      refl;
+  left_open = refl;
+  closed = refl;
+  twice = refl;
+  inout = refl;
+  reader = refl;
+  given_up = refl;
+  yields = refl;
+  never = refl;
+  held = refl;
+  loop =
+      refl;
+  branch = refl;
+}
+
+pub returns-clause-mended : goal.returns-clause-mended
+returns-clause-mended c = record { elements = refl; filled = refl; inout = refl; yields = refl; copied = refl }

@@ -1,5 +1,0 @@
-use Rattle.hy_core.proofs.told.shaped_is_never_stuck.Goals as goal
-use Rattle.hy_core.proofs.Stuck.{never_stuck}
-
-pub returns : goal.returns
-returns c = never_stuck

@@ -1,0 +1,202 @@
+-- Which small cores have a flow: all that are calm, and none of those that are not.
+use Rattle.std.specs.Prelude.{◌≡◌, Bool, true, false, List, [], ◌∷◌, ◌++◌, ℤ, pos}
+use Rattle.hy_core.specs.Plain.{Add, Sub, Mul, Div, Rem, NewArray, Done, Stmt, Set, Lend, Close, Move, Copy, Drop, Call, Project, Slide, Yield, If, While}
+use Rattle.hy_core.specs.Plain.{Writes, Fun, Core}
+use Rattle.hy_core.specs.Control.{Stage, Deinitialises, GivesUp}
+use Rattle.hy_core.specs.FlowOf.{has_flow}
+use Rattle.hy_core.specs.Notation.{of, item, push, stmts, print, tell, int, inout_of, set_of, unit, number, truth, numbers, numbers_for, fun, ramp, main, core}
+use Rattle.hy_core.specs.Examples as calm
+use Rattle.hy_core.specs.Examples.{leave}
+use Rattle.hy_core.specs.Differences as wild
+
+abbrev pub Flows : Stage → Core → Type 0
+Flows stage core = has_flow stage core ≡ true
+
+abbrev pub FlowsNot : Core → Type 0
+FlowsNot core = has_flow GivesUp core ≡ false
+
+abbrev pub Operates : ℤ → ℤ → Type 0
+Operates a b = Flows GivesUp (calm.operation Add a b) × Flows GivesUp (calm.operation Sub a b) × Flows GivesUp (calm.operation Mul a b)
+    × Flows GivesUp (calm.operation Div a b) × Flows GivesUp (calm.operation Rem a b)
+
+pub record CalmFlow : Type 0 where
+  pub field : Flows GivesUp calm.a_field
+  pub element : Flows GivesUp calm.an_element
+  pub twice : Flows GivesUp calm.read_twice
+  pub inout : Flows GivesUp calm.an_inout
+  pub set : Flows GivesUp calm.a_set
+  pub copy : Flows GivesUp calm.a_copy
+  pub first : Flows GivesUp calm.first_slides_first
+  pub last : Flows GivesUp calm.last_slides_first
+  pub at_close : Flows GivesUp calm.part_at_close
+  pub trap : Flows GivesUp calm.trap_in_slide
+  pub set_variant : Flows GivesUp calm.a_set_variant
+  pub early_end : Flows Deinitialises calm.past_an_end
+  pub old_element : Flows Deinitialises calm.an_old_element
+  pub whole : Flows Deinitialises calm.a_whole
+  pub in_part : Flows Deinitialises calm.in_part
+  pub rows : Flows Deinitialises calm.rows_of_numbers
+  pub tree : Flows Deinitialises calm.a_tree
+  pub loop : Flows GivesUp calm.a_loop
+  pub left : Flows GivesUp calm.leaves_a_loop
+  pub index : Flows Deinitialises calm.reads_an_index
+  pub array : Flows GivesUp calm.an_array
+  pub operations : (a b : ℤ) → Operates a b
+  pub precondition : Flows GivesUp calm.precondition
+
+pub record WildFlow : Type 0 where
+  pub stale : FlowsNot wild.stale_read
+  pub under_reader : FlowsNot wild.changed_under_reader
+  pub by_reader : FlowsNot wild.changed_by_reader
+  pub by_callee : FlowsNot wild.changed_by_callee
+  pub by_projection : FlowsNot wild.changed_by_projection
+  pub lent_on : FlowsNot wild.lent_on_by_reader
+  pub moved : FlowsNot wild.moved_by_reader
+  pub dropped : FlowsNot wild.dropped_by_reader
+  pub writers : FlowsNot wild.two_writers
+  pub again : FlowsNot wild.opened_again
+  pub over : FlowsNot wild.opened_over
+  pub early : FlowsNot wild.closed_over
+  pub shut : FlowsNot wild.closed_shut
+  pub handed : FlowsNot wild.handed_over
+  pub yielded : FlowsNot wild.yielded_over
+
+-- CORES THAT ARE REFUSED, each for one fault. Local 0 is for `()`, 1 to 6 are numbers, 7 and 8 are arrays of numbers, 9 is a
+-- truth value.
+
+abbrev pub body : List Stmt → Fun
+body ss = main (unit ∷ numbers_for 6 (numbers ∷ numbers ∷ truth ∷ [])) ss
+
+abbrev pub alone : List Stmt → Core
+alone ss = core (body ss ∷ [])
+
+-- an array of two numbers in local 7, and indices in 1 and 2
+abbrev pub with_array : List Stmt → Core
+with_array ss = alone (tell NewArray 7 [] ∷ int 1 5 ∷ push 7 1 ∷ int 1 6 ∷ push 7 1 ∷ int 1 0 ∷ int 2 1 ∷ ss)
+
+abbrev pub end_array : List Stmt
+end_array = Drop (of 2) ∷ Drop (of 1) ∷ Drop (of 7) ∷ leave 0
+
+-- two elements are lent at once
+abbrev pub two_elements : Core
+two_elements = with_array (Lend 3 (item 7 1) true ∷ Lend 4 (item 7 2) true ∷ Close 4 ∷ Close 3 ∷ end_array)
+
+-- and one after the other
+abbrev pub one_then_another : Core
+one_then_another = with_array (Lend 3 (item 7 1) true ∷ Close 3 ∷ Lend 4 (item 7 2) true ∷ Close 4 ∷ end_array)
+
+-- an element is moved out
+abbrev pub element_moved : Core
+element_moved = with_array (Move (of 3) (item 7 1) ∷ Drop (of 3) ∷ end_array)
+
+-- an index is unset
+abbrev pub unset_index : Core
+unset_index = with_array (print (item 7 3) ∷ end_array)
+
+-- a set array is stored over
+abbrev pub array_over : Core
+array_over = with_array (tell NewArray 7 [] ∷ end_array)
+
+-- a checked core copies an array
+abbrev pub array_copied : Core
+array_copied = with_array (Copy (of 8) (of 7) ∷ Drop (of 8) ∷ end_array)
+
+abbrev pub unset_read : Core
+unset_read = alone (print (of 1) ∷ leave 0)
+
+abbrev pub unset_dropped : Core
+unset_dropped = alone (Drop (of 1) ∷ leave 0)
+
+abbrev pub left_set : Core
+left_set = alone (int 1 1 ∷ leave 0)
+
+abbrev pub left_open : Core
+left_open = alone (int 1 1 ∷ Lend 2 (of 1) true ∷ leave 0)
+
+-- a local that a `Lend` fills is used after its `Close`
+abbrev pub used_closed : Core
+used_closed = alone (int 1 1 ∷ Lend 2 (of 1) true ∷ Close 2 ∷ int 2 7 ∷ Drop (of 2) ∷ Drop (of 1) ∷ leave 0)
+
+-- a place for a `Set` parameter is set, one for an `Inout` parameter is not, and one that is lent for reading is handed on for change
+abbrev pub lends_to : Fun → List Stmt → Core
+lends_to f ss = core (body ss ∷ f ∷ [])
+
+abbrev pub fills : Fun
+fills = fun (set_of number ∷ []) [] unit (unit ∷ []) (int 0 7 ∷ leave 1)
+
+abbrev pub changes : Fun
+changes = fun (inout_of number ∷ []) [] unit (unit ∷ []) (int 0 7 ∷ leave 1)
+
+abbrev pub calls : (write : Bool) → List Stmt → List Stmt
+calls write ss = ss ++ (Lend 2 (of 1) write ∷ Call 1 (2 ∷ []) [] (of 0) ∷ Close 2 ∷ Drop (of 1) ∷ leave 0)
+
+abbrev pub filled_twice : Core
+filled_twice = lends_to fills (calls true (int 1 1 ∷ []))
+
+abbrev pub filled_once : Core
+filled_once = lends_to fills (calls true [])
+
+abbrev pub unset_inout : Core
+unset_inout = lends_to changes (calls true [])
+
+abbrev pub set_inout : Core
+set_inout = lends_to changes (calls true (int 1 1 ∷ []))
+
+abbrev pub reader_changed : Core
+reader_changed = lends_to changes (calls false (int 1 1 ∷ []))
+
+-- a body leaves its `Inout` parameter unset
+abbrev pub inout_given_up : Core
+inout_given_up = lends_to (fun (inout_of number ∷ []) [] unit (unit ∷ []) (Drop (of 0) ∷ leave 1)) (leave 0)
+
+-- a ramp yields for change what it has for reading; and one does not yield
+abbrev pub yields_reader : Core
+yields_reader = lends_to (ramp Writes (inout_of number ∷ []) [] number (number ∷ unit ∷ []) (Lend 1 (of 0) false ∷ Yield 1 ∷ Close 1 ∷ leave 2)) (leave 0)
+
+abbrev pub yields_writer : Core
+yields_writer = lends_to (ramp Writes (inout_of number ∷ []) [] number (number ∷ unit ∷ []) (Lend 1 (of 0) true ∷ Yield 1 ∷ Close 1 ∷ leave 2)) (leave 0)
+
+abbrev pub never_yields : Core
+never_yields = lends_to (ramp Writes (inout_of number ∷ []) [] number (number ∷ unit ∷ []) (leave 2)) (leave 0)
+
+-- a local that a subscript was lent is used before the subscript ends
+abbrev pub used_held : Core
+used_held = core (body (int 1 1 ∷ Lend 2 (of 1) true ∷ Project 1 (2 ∷ []) [] 3 ∷ print (of 2) ∷ Slide 3 ∷ Close 2 ∷ Drop (of 1) ∷ leave 0)
+    ∷ ramp Writes (inout_of number ∷ []) [] number (number ∷ unit ∷ []) (Lend 1 (of 0) true ∷ Yield 1 ∷ Close 1 ∷ leave 2) ∷ [])
+
+-- what a pass of a loop sets it does not give up
+abbrev pub set_in_loop : Core
+set_in_loop = alone (While (stmts (Set (of 9) (pos 0) ∷ [])) 9 (stmts (Drop (of 9) ∷ int 1 1 ∷ [])) ∷ Drop (of 9) ∷ leave 0)
+
+-- two branches leave a local in two states
+abbrev pub set_in_branch : Core
+set_in_branch = alone (Set (of 9) (pos 1) ∷ If 9 (stmts (int 1 1 ∷ [])) Done ∷ Drop (of 9) ∷ leave 0)
+
+pub record FlawedFlow : Type 0 where
+  pub elements : FlowsNot two_elements
+  pub moved : FlowsNot element_moved
+  pub index : FlowsNot unset_index
+  pub over : FlowsNot array_over
+  pub copied : FlowsNot array_copied
+  pub read : FlowsNot unset_read
+  pub dropped : FlowsNot unset_dropped
+  pub left : FlowsNot left_set
+  pub left_open : FlowsNot left_open
+  pub closed : FlowsNot used_closed
+  pub twice : FlowsNot filled_twice
+  pub inout : FlowsNot unset_inout
+  pub reader : FlowsNot reader_changed
+  pub given_up : FlowsNot inout_given_up
+  pub yields : FlowsNot yields_reader
+  pub never : FlowsNot never_yields
+  pub held : FlowsNot used_held
+  pub loop : FlowsNot set_in_loop
+  pub branch : FlowsNot set_in_branch
+
+-- and what of these is mended
+pub record MendedFlow : Type 0 where
+  pub elements : Flows GivesUp one_then_another
+  pub filled : Flows GivesUp filled_once
+  pub inout : Flows GivesUp set_inout
+  pub yields : Flows GivesUp yields_writer
+  pub copied : Flows Deinitialises array_copied

@@ -1,6 +1,0 @@
-use Rattle.std.proofs.Common.{◌≡◌, ◌<◌, ◌^◌, drop}
-use Rattle.hy_lines.specs.Numerals.{capped_from, capped_digits}
-use Rattle.hy_lines.proofs.number.digits.Given as goal
-
-abbrev pub invariant-loop-byte : goal.invariant-loop-byte
-invariant-loop-byte l = (capped_from l.number (drop l.byte-index l.text) ≡ capped_digits l.text) × (l.number < 2 ^ 64)
