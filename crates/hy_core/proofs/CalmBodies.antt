@@ -1,4 +1,4 @@
--- Calls, projections and loops of a checked core that has a flow: each step is calm, and so is each run.
+-- Calls, projections and loops of a core that has a flow: each step is calm, and so is each run.
 use Rattle.std.proofs.Common.{◌≡◌, ◌≢◌, ◌⊎◌, inl, inr, ⊎_elim, ℕ, ◌<◌, Bool, true, false, cond, nat_lt, List, ◌∷◌, length, Option, Some, None, refl, sym}
 use Rattle.std.proofs.Common.{ap, ◌∙◌, subst}
 use Rattle.std.proofs.lemmas.Bool.{ltb-true}
@@ -36,7 +36,7 @@ module _ (p : Setting) (signatures : ℕ → Signature) (c : Control) (slots : S
   TS = Stands p signatures c.halt
 
   abbrev pub Left : FlowState → Type 0
-  Left d = WorkFlows (context p signatures number c.now.fun) c.now.work d
+  Left d = WorkFlows (context p signatures number c.now.fun) c.now.id c.now.work d
 
   abbrev pub asl : Sleeping
   asl = sleeper_of c.asleep
@@ -208,7 +208,7 @@ module _ (p : Setting) (signatures : ℕ → Signature) (c : Control) (slots : S
           (back p (record c { turns = turns; opened = opened; input = input; output = output }) c.callers v c.now.dest))) slots
       closing turns opened input output v vals s =
           let e : Control = record c { turns = turns; opened = opened; input = input; output = output } in (
-            tt,
+            unbased,
             good_close_all p signatures c.halt e (back p e c.callers v c.now.dest) (length (lent_types c.now.fun)) slots params unbased
                 (λ slots' C. good_back p signatures c.halt e refl number slots slots' C v c.callers c.now.dest others) vals s,
           )
@@ -317,7 +317,7 @@ module _ (p : Setting) (signatures : ℕ → Signature) (c : Control) (slots : S
                       number = number;
                       flow = d;
                       half = slide_half of v d b s.frame.number st ended sl s.nowhere;
-                      goes = subst (λ dest. GoesBy (context p signatures number c.now.fun) d c.now.work (signatures s.frame.number).yields dest)
+                      goes = subst (λ dest. GoesBy (context p signatures number c.now.fun) c.now.id d c.now.work (signatures s.frame.number).yields dest)
                           (sym s.nowhere) w;
                     },
                     callers_keep p signatures slots _ (sleeper_of c.asleep) _ c.now.id c.now.id ch (waits p signatures c.now number) c.callers others.not_now

@@ -1,15 +1,18 @@
--- What is known of each activation of a run of a checked core: one runs, others wait for one another, and others sleep.
-use Rattle.std.proofs.Common.{◌≡◌, ◌≢◌, ◌⊎◌, inl, inr, ⊎_elim, ℕ, suc, ◌<◌, cond, List, [], ◌∷◌, length, Option, Some, None, refl, sym, ap, ◌∙◌, subst, arith}
+-- What is known of each activation of a run of a core that has a flow: one runs, others wait for one another, and others sleep.
+use Rattle.std.proofs.Common.{◌≡◌, ◌≢◌, ◌⊎◌, inl, inr, ⊎_elim, ℕ, suc, ◌<◌, cond, Bool, true, false, List}
+use Rattle.std.proofs.Common.{[], ◌∷◌, length, Option, Some, None, refl, sym, ap, ◌∙◌, subst, arith}
 use Rattle.std.proofs.lemmas.Bool.Decides.{eqb_tells}
 use Rattle.hy_core.specs.Plain.{Place, Stmts, Fun, lent_types}
-use Rattle.hy_core.specs.Memory.{Key, set_at, Way, Origin}
-use Rattle.hy_core.specs.Control.{Flags, Work, Idle, Rest, Loop, Test, Drops, Dest, Opens, Nowhere, Activation, Nap, Halt, Control, GivesUp, Setting}
+use Rattle.hy_core.specs.Memory.{Key, Spot, set_at, Way, Origin}
+use Rattle.hy_core.specs.Control.{Flags, Deed, Body, EachOf, Element, Task, Do, Value, PartsOf, Unsets, Work, Idle, Rest, Loop}
+use Rattle.hy_core.specs.Control.{Test, Drops, Dest, Opens, Nowhere, Activation, Nap, Halt, Control, GivesUp, Setting}
 use Rattle.hy_core.specs.Control.{sleeper_of, wake}
 use Rattle.hy_core.specs.Control as control
 use Rattle.hy_core.specs.Statements.{broken, continued}
-use Rattle.hy_core.specs.Typing.{Among, still}
+use Rattle.hy_core.specs.Typing.{Among, all, still}
 use Rattle.hy_core.specs.Shaped.{HasForm, ShapedAll}
-use Rattle.hy_core.specs.Flow.{IsSet, Holder, InLocal, InSubscript, OpenPlace, Status, Own, Param, Opened, Bound, FlowState, Signature, Context, set_local}
+use Rattle.hy_core.specs.Flow.{IsSetSo, where_is, Holder, InLocal, InSubscript, OpenPlace, Status, Own}
+use Rattle.hy_core.specs.Flow.{Param, Opened, Bound, FlowState, Signature, Context, set_local}
 use Rattle.hy_core.specs.Flow.{with_status, all_set, IsShutAt, MayReadAt, MayWriteAt, IndexesOk, FlowsInto, TransfersAll, Around, NoLoop, InLoop}
 use Rattle.hy_core.specs.Flow.{context_of}
 use Rattle.hy_core.proofs.Keys.{key_dec, set_same, set_other, at_key}
@@ -34,6 +37,10 @@ passes_on g h d a b = record { status = λ j. a.status j ∙ b.status j; open_pl
 pub flows_pass : (x : Context) (g d : FlowState) → FlowsInto x g d → Passes g d
 flows_pass x g d l = record { status = l.status; open_places = l.open_places }
 
+-- of what is open they tell nothing new where a local is known to be true or false
+pub where_pass : (x : Context) (g : FlowState) (f : ℕ) (b : Bool) → Passes g (where_is x g f b)
+where_pass x g f b = record { status = λ j. refl; open_places = λ e i. i }
+
 -- WORK
 
 module _ (x : Context) where
@@ -47,10 +54,10 @@ module _ (x : Context) where
     pub out : FlowState
     pub transfers : TransfersAll x NoLoop g head test
     pub read : MayReadAt test on []
-    pub set : test.init on [] ≡ IsSet
+    pub set : IsSetSo (test.init on [])
     pub flag : HasForm x.core x.fun on Flags
-    pub pass : TransfersAll x (InLoop out g) test body g
-    pub leaves : FlowsInto x test out
+    pub pass : TransfersAll x (InLoop out g) (where_is x test on true) body g
+    pub leaves : FlowsInto x (where_is x test on false) out
     pub shaped_head : ShapedAll x.core x.fun head
     pub shaped_body : ShapedAll x.core x.fun body
     pub next : N out
@@ -73,14 +80,33 @@ module _ (x : Context) where
     pub loop : LoopFlows first head on body N
     pub flows : Passes g loop.test
 
+-- DEINITIALISATIONS that a `Drop` has begun: where each part of them stands
+
+module _ (P : Spot → Type 0) where
+  abbrev pub DeedOn : Deed → Type 0
+  DeedOn (Body d s) = P s
+  DeedOn (EachOf n s) = P s
+  DeedOn (Element s) = P s
+
+  abbrev pub TaskOn : Task → Type 0
+  TaskOn (Do d) = DeedOn d
+  TaskOn (Value s) = P s
+  TaskOn (PartsOf s) = P s
+  TaskOn (Unsets s) = P s
+
+-- the place is the activation's own, and may be changed
+abbrev pub SpotFree : ℕ → FlowState → Spot → Type 0
+SpotFree id g s = (s.key.act ≡ id) × MayWriteAt g s.key.local s.path
+
+module _ (x : Context) (id : ℕ) where
   -- what is left of a body, where g is known; after its innermost loop; and at the next pass of that
   abbrev mutual
     pub WorkFlows : Work → FlowState → Type 0
     WorkFlows Idle g = Unit {0}
-    WorkFlows (Rest ss w) g = RestFlows g ss (BreakFlows w) (AgainFlows w) (WorkFlows w)
-    WorkFlows (Loop head on body w) g = AtHead g head on body (WorkFlows w)
-    WorkFlows (Test head on body w) g = AtTest g head on body (WorkFlows w)
-    WorkFlows (Drops ts w) g = ⊥
+    WorkFlows (Rest ss w) g = RestFlows x g ss (BreakFlows w) (AgainFlows w) (WorkFlows w)
+    WorkFlows (Loop head on body w) g = AtHead x g head on body (WorkFlows w)
+    WorkFlows (Test head on body w) g = AtTest x g head on body (WorkFlows w)
+    WorkFlows (Drops ts w) g = all (TaskOn (SpotFree id g)) ts × ((d : FlowState) × Passes g d × WorkFlows w d)
 
     pub BreakFlows : Work → FlowState → Type 0
     BreakFlows Idle g = Unit {0}
@@ -92,7 +118,7 @@ module _ (x : Context) where
     pub AgainFlows : Work → FlowState → Type 0
     AgainFlows Idle g = Unit {0}
     AgainFlows (Rest ss w) g = AgainFlows w g
-    AgainFlows (Loop head on body w) g = LoopFlows g head on body (WorkFlows w)
+    AgainFlows (Loop head on body w) g = LoopFlows x g head on body (WorkFlows w)
     AgainFlows (Test head on body w) g = Unit {0}
     AgainFlows (Drops ts w) g = Unit {0}
 
@@ -185,29 +211,29 @@ abbrev pub bind : FlowState → ℕ → Way → FlowState
 bind g t v = with_status g t (Bound v) all_set
 
 -- what is known of a waiting body once it goes on
-pub record WritesBack (x : Context) (g : FlowState) (w : Work) (place : Place) : Type 0 where
+pub record WritesBack (x : Context) (id : ℕ) (g : FlowState) (w : Work) (place : Place) : Type 0 where
   pub indexes : IndexesOk g place.steps
   pub free : MayWriteAt g place.local (still place.steps)
   pub next : FlowState
   pub passes : Passes g next
-  pub work : WorkFlows x w next
+  pub work : WorkFlows x id w next
 
-pub record Binds (x : Context) (g : FlowState) (w : Work) (v : Way) (t : ℕ) : Type 0 where
+pub record Binds (x : Context) (id : ℕ) (g : FlowState) (w : Work) (v : Way) (t : ℕ) : Type 0 where
   pub own : g.status t ≡ Own
   pub shut : IsShutAt g t
   pub next : FlowState
   pub passes : Passes (bind g t v) next
-  pub work : WorkFlows x w next
+  pub work : WorkFlows x id w next
 
-abbrev pub GoesBy : Context → FlowState → Work → Way → Dest → Type 0
-GoesBy x g w v (control.Result q) = WritesBack x g w q
-GoesBy x g w v (Opens t) = Binds x g w v t
-GoesBy x g w v Nowhere = WorkFlows x w g
+abbrev pub GoesBy : Context → ℕ → FlowState → Work → Way → Dest → Type 0
+GoesBy x id g w v (control.Result q) = WritesBack x id g w q
+GoesBy x id g w v (Opens t) = Binds x id g w v t
+GoesBy x id g w v Nowhere = WorkFlows x id w g
 
-abbrev pub Goes : Context → FlowState → Work → Top → Type 0
-Goes x g w Runs = WorkFlows x w g
-Goes x g w (Waits id lent v dest) = GoesBy x g w v dest
-Goes x g w (Sleeps k) = WorkFlows x w g
+abbrev pub Goes : Context → ℕ → FlowState → Work → Top → Type 0
+Goes x id g w Runs = WorkFlows x id w g
+Goes x id g w (Waits other lent v dest) = GoesBy x id g w v dest
+Goes x id g w (Sleeps k) = WorkFlows x id w g
 
 abbrev pub NotIn : ℕ → List Activation → Type 0
 NotIn i [] = Unit {0}
@@ -253,7 +279,7 @@ half_keep slots slots' asl asl' i e top id lent g ch ni ne h = record {
 
 module _ (p : Setting) (signatures : ℕ → Signature) where
   abbrev pub context : ℕ → Fun → Context
-  context n f = context_of GivesUp p.core signatures n f
+  context n f = context_of p.stage p.core signatures n f
 
   abbrev pub waits : Activation → ℕ → Top
   waits a n = Waits a.id (length (lent_types a.fun)) (signatures n).yields a.dest
@@ -262,7 +288,7 @@ module _ (p : Setting) (signatures : ℕ → Signature) where
     pub number : ℕ
     pub flow : FlowState
     pub half : Half slots asl top a.id (length (lent_types a.fun)) flow
-    pub goes : Goes (context number a.fun) flow a.work top
+    pub goes : Goes (context number a.fun) a.id flow a.work top
 
   abbrev pub CallersOk : Slots → Sleeping → Top → List Activation → Type 0
   CallersOk slots asl top [] = Unit {0}
@@ -293,7 +319,7 @@ module _ (p : Setting) (signatures : ℕ → Signature) where
     pub number : ℕ
     pub flow : FlowState
     pub half : Half slots (sleeper_of c.asleep) Runs c.now.id (length (lent_types c.now.fun)) flow
-    pub goes : WorkFlows (context number c.now.fun) c.now.work flow
+    pub goes : WorkFlows (context number c.now.fun) c.now.id c.now.work flow
     pub others : Others slots (sleeper_of c.asleep) c.now.id c.started (waits c.now number) c.callers
 
   module _ (slots slots' : Slots) (asl asl' : Sleeping) (i e : ℕ) (ch : Change i e slots slots' asl asl') where

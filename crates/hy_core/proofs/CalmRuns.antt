@@ -1,4 +1,4 @@
--- Yields, calls, projections and loops of a checked core that has a flow are calm, and so is each run of it.
+-- Yields, calls, projections and loops of a core that has a flow are calm, and so is each run of it.
 use Rattle.std.proofs.Common.{◌≡◌, ◌≢◌, ◌⊎◌, inl, inr, ⊎_elim, ℕ, zero, suc, ◌+◌, ◌<◌, ◌≤◌, List, [], ◌∷◌, length, Option, Some, None, slice_get, refl, sym}
 use Rattle.std.proofs.Common.{ap, ◌∙◌, subst, arith}
 use Rattle.std.proofs.lemmas.Bool.Decides.{eqb_tells}
@@ -37,7 +37,7 @@ module _ (p : Setting) (signatures : ℕ → Signature) (c : Control) (slots : S
   TS = Stands p signatures c.halt
 
   abbrev pub Left : FlowState → Type 0
-  Left d = WorkFlows (context p signatures number c.now.fun) c.now.work d
+  Left d = WorkFlows (context p signatures number c.now.fun) c.now.id c.now.work d
 
   abbrev pub asl : Sleeping
   asl = sleeper_of c.asleep
@@ -220,7 +220,7 @@ module _ (p : Setting) (signatures : ℕ → Signature) (c : Control) (slots : S
   pub now_fresh : c.now.id ≢ c.started
   now_fresh e = let lt = others.now_below in omega arith
 
-  none_new : (j : ℕ) → slots (at c.started j) ≡ None
+  pub none_new : (j : ℕ) → slots (at c.started j) ≡ None
   none_new j = go (slots (at c.started j)) refl
     where
       go : (y : Option Origin) → slots (at c.started j) ≡ y → y ≡ None
@@ -337,7 +337,7 @@ module _ (p : Setting) (signatures : ℕ → Signature) (c : Control) (slots : S
 
   -- the new activation runs, and what ran waits for it
   module _ (sh : Shaped p.core) (each : (n : ℕ) (f : Fun) → slice_get p.core.funs n ≡ Some f
-      → BodyFlows (context_of GivesUp p.core signatures n f)) (n : ℕ) (f : Fun) (found : slice_get p.core.funs n ≡ Some f) (dest : Dest) (slots2 : Slots)
+      → BodyFlows (context_of p.stage p.core signatures n f)) (n : ℕ) (f : Fun) (found : slice_get p.core.funs n ≡ Some f) (dest : Dest) (slots2 : Slots)
       (H : Handing slots2 (length (lent_types f)) []) (lent : Lent slots2 (signatures n) 0 (lent_types f)) where
     abbrev pub top : Top
     top = Waits c.started (length (lent_types f)) (signatures n).yields dest
@@ -385,7 +385,7 @@ module _ (p : Setting) (signatures : ℕ → Signature) (c : Control) (slots : S
 
     begun_others : (d : FlowState)
         → Half slots2 (sleeper_of c.asleep) (Waits c.started (length (lent_types f)) (signatures n).yields dest) c.now.id (length (lent_types c.now.fun)) d
-        → GoesBy (context p signatures number c.now.fun) d c.now.work (signatures n).yields dest
+        → GoesBy (context p signatures number c.now.fun) c.now.id d c.now.work (signatures n).yields dest
         → Others p signatures slots2 (sleeper_of c.asleep) c.started (suc c.started) (Waits c.started (length (lent_types f)) (signatures n).yields dest)
         (c.now ∷ c.callers)
     begun_others d h w = record {
@@ -438,7 +438,7 @@ module _ (p : Setting) (signatures : ℕ → Signature) (c : Control) (slots : S
 
     pub begins_so : (turns n_opened : ℕ) (input output : List ℕ) (d : FlowState)
         → Half slots2 (sleeper_of c.asleep) top c.now.id (length (lent_types c.now.fun)) d
-        → GoesBy (context p signatures number c.now.fun) d c.now.work (signatures n).yields dest
+        → GoesBy (context p signatures number c.now.fun) c.now.id d c.now.work (signatures n).yields dest
         → TS (begun (record c { turns = turns; opened = n_opened; input = input; output = output }) f dest) slots2
     begins_so turns n_opened input output d h w = record {
       same = refl;

@@ -1,4 +1,4 @@
--- Statements of a checked core that has a flow: each step is calm.
+-- Statements of a core that has a flow: each step is calm.
 use Rattle.std.proofs.Common.{◌≡◌, ◌≢◌, ℕ, suc, Bool, true, false, cond, if◌then◌else◌, List, [], ◌∷◌, ◌++◌, length, Option, Some, None, refl, sym, ap, ◌∙◌}
 use Rattle.std.proofs.Common.{subst}
 use Rattle.hy_base.specs.declared.numbers.IntegerType.TheVariants.{Int}
@@ -20,10 +20,11 @@ use Rattle.hy_core.specs.Control.{Work, Ends, Stuck, Control, Setting, with_work
 use Rattle.hy_core.specs.Control.{sleeper_of}
 use Rattle.hy_core.specs.Statements.{changes_one, with_one, with_two, with_three, store_to, give, arithmetic, compares, pop, swapped, swap, prints, reads}
 use Rattle.hy_core.specs.Statements.{built}
-use Rattle.hy_core.specs.Typing.{Among, all, still}
+use Rattle.hy_core.specs.Typing.{Among, all, still, place_type}
 use Rattle.hy_core.specs.Flow.{Holder, InLocal, InSubscript, OpenPlace, Loan, Status, Own, Param, Opened, Bound, FlowState, Signature, Context, set_local}
 use Rattle.hy_core.specs.Flow.{with_init, with_status, with_open_place, IsOpen, none_set, all_set, is_exact, IsShutAt, MayReadAt, MayWriteAt, MayOpenAt}
-use Rattle.hy_core.specs.Flow.{IndexesOk, ReadOk, ChangeOk, StoreOk, GiveOk, TakeOk, given, stored_if, stored, FlowsInto, Stores, Computes, opened, LendOk}
+use Rattle.hy_core.specs.Flow.{IndexesOk, ReadOk, ChangeOk, StoreOk, GiveOk, TakeOk, given, stored_as, constant_state, form_or_unknown}
+use Rattle.hy_core.specs.Flow.{set_to, stored_if, stored, FlowsInto, Stores, Computes, opened, LendOk}
 use Rattle.hy_core.specs.Flow.{come_back, Without, Closes, Slides, HandOk, HandsOk, come_from, held_by, TakesOk, all_given, Calls, Projects, IsLast}
 use Rattle.hy_core.specs.Flow.{TransfersBuilt, Around, NoLoop, InLoop, TransfersAll, Transfers, first_status, first, BodyFlows, HasFlow}
 use Rattle.hy_core.specs.Flow as transfer
@@ -43,6 +44,13 @@ pub stored_pass : (x : Context) (g : FlowState) (q : Place) → Passes g (stored
 stored_pass x g q = go (is_exact q.steps)
   where
     go : (b : Bool) → Passes g (stored_if x g q b)
+    go true = record { status = λ j. refl; open_places = λ e i. i }
+    go false = passes_self g
+
+pub set_pass : (x : Context) (g : FlowState) (q : Place) (n : ℤ) → Passes g (set_to x g q n)
+set_pass x g q n = go (is_exact q.steps)
+  where
+    go : (b : Bool) → Passes g (stored_as x (λ r. constant_state (form_or_unknown x (place_type x.core.types x.fun q)) n) g q b)
     go true = record { status = λ j. refl; open_places = λ e i. i }
     go false = passes_self g
 
@@ -107,7 +115,7 @@ module _ (p : Setting) (signatures : ℕ → Signature) (c : Control) (slots : S
   module _ (half : HalfOf slots g) (others : OthersOf slots) where
     -- with a flow for what is left
     abbrev pub Left : FlowState → Type 0
-    Left d = WorkFlows (context p signatures number c.now.fun) c.now.work d
+    Left d = WorkFlows (context p signatures number c.now.fun) c.now.id c.now.work d
 
     pub fine : (d : FlowState) → Passes g d → Left d → (e : Control) → Like c e → GoodAt TS (Return e) slots
     fine d l w e k vals s =
@@ -122,7 +130,8 @@ module _ (p : Setting) (signatures : ℕ → Signature) (c : Control) (slots : S
         }))
 
     -- with other work
-    pub fine_work : (d : FlowState) (w : Work) → Passes g d → WorkFlows (context p signatures number c.now.fun) w d → GoodAt TS (Return (with_work c w)) slots
+    pub fine_work : (d : FlowState) (w : Work) → Passes g d → WorkFlows (context p signatures number c.now.fun) c.now.id w d
+        → GoodAt TS (Return (with_work c w)) slots
     fine_work d w l t vals s =
         stands (record {
           same = refl;

@@ -1,4 +1,4 @@
--- Statements of a checked core that has a flow: each step is calm.
+-- Statements of a core that has a flow: each step is calm.
 use Rattle.hy_core.specs.Plain.{lent_types}
 use Rattle.std.proofs.Common.{◌≡◌, ◌≢◌, inl, inr, ⊎_elim, ℕ, zero, suc, ◌<◌, List, [], ◌∷◌, length, Option, Some, None, refl, sym, ap, ◌∙◌, subst, arith}
 use Rattle.std.proofs.lemmas.Bool.Decides.{eqb_tells}

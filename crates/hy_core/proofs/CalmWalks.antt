@@ -14,12 +14,13 @@ use Rattle.hy_core.specs.Values.{Val, Unset, Number, Truth, Tuple, Product, Arra
 use Rattle.hy_core.specs.Values.{shape, Has, IsThere, is_whole, Diverge}
 use Rattle.hy_core.specs.Memory.{Key, Spot, whole, Way, Reads, Writes, Origin, Copies, copying}
 use Rattle.hy_core.specs.Runs as effect
-use Rattle.hy_core.specs.Runs.{Effect, Interaction, Fetch, Inspect, Perform, Return, apply, interpret}
-use Rattle.hy_core.specs.Calm.{MayInspect, MayRead, MayWrite, May, IsCalm}
+use Rattle.hy_core.specs.Runs.{Effect, Store, Change, Clear, Lend, Hand, Close, Quit, Interaction, Fetch, Inspect, Perform, Return, apply, interpret}
+use Rattle.hy_core.specs.Calm.{MayInspect, MayRead, MayWrite, MayLend, MayHand, MayClose, May, IsCalm}
 use Rattle.hy_core.specs.Operators.{index_in, blanks}
 use Rattle.hy_core.specs.Control.{Form, Numbers, Flags, Tuples, Products, Arrays, Unknown, form, part_type, element_type, blank_of, local_type, Halt, Ends}
 use Rattle.hy_core.specs.Control.{Stuck, NotSet, NotOpened, Control, Setting, stop, key, count_one, with_some, trapped, turn, with_number, with_flag}
-use Rattle.hy_core.specs.Control.{with_array, with_set, with_index, Aim, ToRead, ToWrite, at_part, at_element, walk, spot, read, take, write, read_number}
+use Rattle.hy_core.specs.Control.{with_array, with_set, with_index, Aim, ToRead, ToWrite, ToDrop, at_part}
+use Rattle.hy_core.specs.Control.{at_element, walk, spot, read, take, write, read_number}
 use Rattle.hy_core.specs.Control.{read_flag, read_array}
 use Rattle.hy_core.specs.Typing.{Among, still}
 use Rattle.hy_core.specs.Flow.{Holder, OpenPlace, Status, Own, Param, Opened, Bound, FlowState, way_of, IsInLocal, is_exact, IsShutAt, MayReadAt}
@@ -42,17 +43,48 @@ pub data Fine (S : Control → Slots → Type 0) (c : Control) (slots : Slots) :
   over : (h : Halt) → c.halt ≡ Some h → h ≢ NotOpened → Fine S c slots
   stands : S c slots → Fine S c slots
 
+-- what may be done; and an activation that ends has no open place
+abbrev pub Allowed : Effect → Copies → Type 0
+Allowed (Store s v) m = MayWrite m s
+Allowed (Change s v) m = MayWrite m s
+Allowed (Clear s) m = MayWrite m s
+Allowed (Lend k s way) m = MayLend m k s way
+Allowed (Hand k l) m = MayHand m k l
+Allowed (Close k) m = MayClose m k
+Allowed (Quit a n) m = (k : Key) (o : Origin) → m.opened k ≡ Some o → o.base.act ≢ a
+
+may_of : (o : Effect) (m : Copies) → Allowed o m → May o m
+may_of (Store s v) m may = may
+may_of (Change s v) m may = may
+may_of (Clear s) m may = may
+may_of (Lend k s way) m may = may
+may_of (Hand k l) m may = may
+may_of (Close k) m may = may
+may_of (Quit a n) m may = tt
+
+abbrev pub IsQuiet : Interaction Control → Copies → Type 0
+IsQuiet (Fetch s go) m = MayRead m s × IsQuiet (go (copying.read m s)) m
+IsQuiet (Inspect s go) m = MayInspect m s × IsQuiet (go (shape (copying.read m s))) m
+IsQuiet (Perform o t) m = Allowed o m × IsQuiet t (apply copying o m)
+IsQuiet (Return c) m = Unit {0}
+
 -- each question and change is allowed, and the step leads to such a state
 abbrev pub Good : (Control → Slots → Type 0) → Interaction Control → Copies → Type 0
 Good S (Fetch s go) m = MayRead m s × Good S (go (copying.read m s)) m
 Good S (Inspect s go) m = MayInspect m s × Good S (go (shape (copying.read m s))) m
-Good S (Perform o t) m = May o m × Good S t (apply copying o m)
+Good S (Perform o t) m = Allowed o m × Good S t (apply copying o m)
 Good S (Return c) m = Fine S c m.opened
+
+pub good_quiet : (S : Control → Slots → Type 0) (t : Interaction Control) (m : Copies) → Good S t m → IsQuiet t m
+good_quiet S (Fetch s go) m h = (h.0, good_quiet S (go (copying.read m s)) m h.1)
+good_quiet S (Inspect s go) m h = (h.0, good_quiet S (go (shape (copying.read m s))) m h.1)
+good_quiet S (Perform o t) m h = (h.0, good_quiet S t (apply copying o m) h.1)
+good_quiet S (Return c) m h = tt
 
 pub good_calm : (S : Control → Slots → Type 0) (t : Interaction Control) (m : Copies) → Good S t m → IsCalm t m
 good_calm S (Fetch s go) m h = (h.0, good_calm S (go (copying.read m s)) m h.1)
 good_calm S (Inspect s go) m h = (h.0, good_calm S (go (shape (copying.read m s))) m h.1)
-good_calm S (Perform o t) m h = (h.0, good_calm S t (apply copying o m) h.1)
+good_calm S (Perform o t) m h = (may_of o m h.0, good_calm S t (apply copying o m) h.1)
 good_calm S (Return c) m h = tt
 
 pub good_next : (S : Control → Slots → Type 0) (t : Interaction Control) (m : Copies) → Good S t m
@@ -65,7 +97,7 @@ good_next S (Return c) m h = h
 pub good_sound : (S : Control → Slots → Type 0) (t : Interaction Control) (m : Copies) → Good S t m → Sound m → Sound (interpret copying t m).memory
 good_sound S (Fetch s go) m h x = good_sound S (go (copying.read m s)) m h.1 x
 good_sound S (Inspect s go) m h x = good_sound S (go (shape (copying.read m s))) m h.1 x
-good_sound S (Perform o t) m h x = good_sound S t (apply copying o m) h.1 (sound_apply o m h.0 x)
+good_sound S (Perform o t) m h x = good_sound S t (apply copying o m) h.1 (sound_apply o m (may_of o m h.0) x)
 good_sound S (Return c) m h x = x
 
 -- the same whatever the values are
@@ -127,7 +159,7 @@ Kept slots k = (c : Key) (o : Origin) → slots c ≡ Some o → o.base ≡ k �
 abbrev pub Begins : Path → Path → Type 0
 Begins p q = (r : Path) × (q ≡ p ++ r)
 
-apart_more : (h p q : Path) → Apart h p → Apart h (p ++ q)
+pub apart_more : (h p q : Path) → Apart h p → Apart h (p ++ q)
 apart_more h p q a = subst (λ h. Apart h (p ++ q)) (append-nil h) (apart_back h p [] q a)
 
 pub free_more : (slots : Slots) (w : Way) (k : Key) (p q : Path) → Begins p q → Free slots w k p → Free slots w k q
@@ -219,9 +251,9 @@ index_has n (pos k) j e = yes (nat_lt k n) refl e
 index_has n (negsuc k) j e = absurd (cc)
 
 module _ (p : Setting) (S : Control → Slots → Type 0) where
-  pub good_tell : (o : Effect) (t : Interaction Control) (m : Copies) → Sound m → May o m → (Sound (apply copying o m) → Good S t (apply copying o m))
-      → Good S (Perform o t) m
-  good_tell o t m x may h = (may, h (sound_apply o m may x))
+  pub good_tell : (o : Effect) (t : Interaction Control) (m : Copies) → Sound m → Allowed o m
+      → (Sound (apply copying o m) → Good S t (apply copying o m)) → Good S (Perform o t) m
+  good_tell o t m x may h = (may, h (sound_apply o m (may_of o m may) x))
 
   pub good_some : {A : Type 0} (c : Control) (o : Option A) (go : A → Interaction Control) (m : Copies) → ((a : A) → o ≡ Some a → Good S (go a) m)
       → Good S (with_some c o go) m
@@ -326,6 +358,32 @@ module _ (p : Setting) (S : Control → Slots → Type 0) where
           (λ b. next vals s (there_append q (PartAt i ∷ []) (vals k) there (subst (λ v. Has (PartAt i) (shape v)) (sym is) (ltb-true i (many vs) b), tt)))
       part_good c vals q r f i u (Array vs) t s free there is part next x e = over Stuck refl (λ e. absurd (cc))
 
+      -- up to a place that is to be deinitialised, which may stand in something unset
+      drop_walk : (go : Control → Spot → TyId → Interaction Control) → ((c : Control) → Q c → Fine S c slots) → (steps : List Step) (c : Control)
+          (vals : Key → Val) (q : Path) (t : TyId) → Q c → Sound (mem slots vals) → is_exact steps ≡ true → Free slots w k (q ++ still steps)
+          → IsThere q (vals k) → After k (q ++ still steps) go → Good S (walk p ToDrop c k q t steps go) (mem slots vals)
+      drop_walk go quits [] c vals q t x s exact free there next = next c vals q t x s ([], sym (append-nil (q ++ []) ∙ append-nil q)) there
+      drop_walk go quits (Index l span ∷ steps) c vals q t x s exact free there next = absurd (cc)
+      drop_walk go quits (Part i ∷ steps) c vals q t x s exact free there next = good_some c (part_type (form p.core.types t) i) _ (mem slots vals) (λ u e. (
+        may_inspect vals q (PartAt i ∷ still steps) free,
+        by u (get q (vals k)) refl (λ there. drop_walk go quits steps c vals (q ++ PartAt i ∷ []) u x s exact
+            (subst (Free slots w k) (sym (append_assoc q (PartAt i ∷ []) (still steps))) free) there
+            (λ c vals v t x s b there. next c vals v t x s (b.0, b.1 ∙ ap (λ y. y ++ b.0) (append_assoc q (PartAt i ∷ []) (still steps))) there)),
+      ))
+        where
+          by : (u : TyId) (v : Val) → get q (vals k) ≡ v → (IsThere (q ++ PartAt i ∷ []) (vals k)
+              → Good S (walk p ToDrop c k (q ++ PartAt i ∷ []) u steps go) (mem slots vals))
+              → Good S (at_part ToDrop c (record { key = k; path = q }) (form p.core.types t) i (shape v) (walk p ToDrop c k (q ++ PartAt i ∷ []) u steps go))
+              (mem slots vals)
+          by u Unset is on = quits c x
+          by u (Number n j) is on = over Stuck refl (λ e. absurd (cc))
+          by u (Truth b) is on = over Stuck refl (λ e. absurd (cc))
+          by u (Tuple vs) is on = good_if (nat_lt i (many vs)) c Stuck _ (mem slots vals) (λ e. absurd (cc))
+              (λ b. on (there_append q (PartAt i ∷ []) (vals k) there (subst (λ v. Has (PartAt i) (shape v)) (sym is) (ltb-true i (many vs) b), tt)))
+          by u (Product d vs) is on = good_if (nat_lt i (many vs)) c Stuck _ (mem slots vals) (λ e. absurd (cc))
+              (λ b. on (there_append q (PartAt i ∷ []) (vals k) there (subst (λ v. Has (PartAt i) (shape v)) (sym is) (ltb-true i (many vs) b), tt)))
+          by u (Array vs) is on = over Stuck refl (λ e. absurd (cc))
+
       element_good : (c : Control) (vals : Key → Val) (q : Path) (span : ℕ) (i : ℤ) (v : Val) (go : ℕ → Interaction Control) → IsThere q (vals k)
           → get q (vals k) ≡ v
           → ((j : ℕ) → IsThere (q ++ ElementAt j ∷ []) (vals k) → Good S (go j) (mem slots vals)) → (x : Way)
@@ -408,6 +466,15 @@ module _ (p : Setting) (S : Control → Slots → Type 0) where
         subst (λ k. Good S (walk p (aim_for w) c k [] t place.steps go) (mem slots vals)) (sym same_key)
         (good_walk w (at id place.local) (kept_at w place.local _ may) (may_write_at w place.local _ may) go place.steps c vals [] t x s idx
         (free_at w place.local _ may) tt next))
+
+    pub good_spot_drop : (place : Place) (go : Control → Spot → TyId → Interaction Control) → is_exact place.steps ≡ true
+        → MayWriteAt g place.local (still place.steps) → ((c : Control) → Q c → Fine S c slots) → After (at id place.local) (still place.steps) go
+        → (c : Control) → Q c → GoodAt S (spot p ToDrop c place go) slots
+    good_spot_drop place go exact may quits next c x vals s = good_some c (local_type c.now.fun place.local) _ (mem slots vals) (λ t e.
+        let same_key : key c place.local ≡ at id place.local = ap (λ i. at i place.local) (same c x) in
+        subst (λ k. Good S (walk p ToDrop c k [] t place.steps go) (mem slots vals)) (sym same_key)
+        (drop_walk Writes (at id place.local) (kept_at Writes place.local _ may) (may_write_at Writes place.local _ may) go quits place.steps c vals [] t x s
+        exact (free_at Writes place.local _ may) tt next))
 
     -- whatever is read, and whatever the control counts
     abbrev pub Reads_on : (Control → Val → Interaction Control) → Type 0

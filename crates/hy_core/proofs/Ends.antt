@@ -11,8 +11,8 @@ use Rattle.hy_core.specs.Plain.{Step, Part, Index, Place, Operator, Add, Sub, Mu
 use Rattle.hy_core.specs.Plain.{Count, FreeArray, Print, Read, Check, Stmts, Done, Then, Stmt, Built, Set, Lend, Close, Move, Copy, Drop, Call, Project}
 use Rattle.hy_core.specs.Plain.{Slide, Yield, If, While, Break, Continue, Leave, Fun, is_ramp, lent_types}
 use Rattle.hy_core.specs.Values.{Val, Unset, Number, Truth, Tuple, Product, Array, Vals, No, And, Path, many, Shape, Nothing, Scalar, Flag, Parts, Fields}
-use Rattle.hy_core.specs.Values.{Elements, shape, is_whole, PartAt, ElementAt}
-use Rattle.hy_core.specs.Memory.{Key, Spot, Memory, copying, lending, no_copies, no_cells}
+use Rattle.hy_core.specs.Values.{Elements, shape, is_whole, is_blank, PartAt, ElementAt}
+use Rattle.hy_core.specs.Memory.{Key, Spot, Writes, Memory, copying, lending, no_copies, no_cells}
 use Rattle.hy_core.specs.Runs as effect
 use Rattle.hy_core.specs.Runs.{Interaction, Fetch, Inspect, Perform, Return, apply, State, interpret, steps}
 use Rattle.hy_base.specs.Lines.{Got, read_line}
@@ -27,7 +27,8 @@ use Rattle.hy_core.specs.Control as control
 use Rattle.hy_core.specs.Statements.{changes_one, with_none, with_one, with_two, with_three, store_to, give, arithmetic, compares, pop, swap, reads, built}
 use Rattle.hy_core.specs.Statements.{constant, Charge, Paid, Unpaid, and_pay, pay_turn, charge, charge_parts, charge_elements, charged, hand_all, move_all}
 use Rattle.hy_core.specs.Statements.{enter, close_all, back, yield_to, slide_of, close_of, is_counted, count_if, aim, deinit_of, deeds, part_deeds, doing}
-use Rattle.hy_core.specs.Statements.{deinit_body, does_deed, first_deed, does_tasks, drop, broken, continued, does, tested, goes_on, interaction_of}
+use Rattle.hy_core.specs.Statements.{begun, clears, deinit_body, is_whole_product, does_deed, first_deed, does_tasks}
+use Rattle.hy_core.specs.Statements.{drop, broken, continued, does, tested, goes_on, interaction_of}
 use Rattle.hy_core.specs.Statements.{interaction, start}
 use Rattle.hy_core.specs.Meaning.{Report, report, Run, setting, seen, Means, EveryRunEnds, OneMeaning}
 use Rattle.hy_core.proofs.Keys.{at_key}
@@ -433,11 +434,22 @@ module _ (n u : ℕ) (p : Setting) where
 
   -- DEINITIALISING
 
-  f_begun : (c : Control) (s : Spot) (o : Option Fun) → c.turns ≡ n → FallsBy n u (deinit_body c s o)
-  f_begun c s o e = f_some c o _ (λ f q. f_turn (count_one c) c.turns _ e (λ m lt. takes lt))
+  f_begun : (c : Control) (d : ℕ) (s : Spot) (o : Option Fun) → c.turns ≡ n → FallsBy n u (deinit_body c d s o)
+  f_begun c d s o e = f_some c o _ (λ f q. f_turn (count_one c) c.turns _ e (λ m lt. λ v. by f m lt (is_whole_product d v)))
+    where
+      by : (f : Fun) (m : ℕ) → m < n → (b : Bool) → FallsBy n u (cond b
+          (Perform (effect.Lend (record { act = c.started; local = zero }) s Writes)
+          (Return (begun (record (count_one c) { turns = m }) f Nowhere))) (Return (record (count_one c) { turns = m })))
+      by f m lt true = takes lt
+      by f m lt false = takes lt
+
+  f_clears : (s : Spot) (b : Bool) (t : Interaction Control) → FallsBy n u t → FallsBy n u (clears s b t)
+  f_clears s true t h = h
+  f_clears s false t h = h
 
   f_deed : (c : Control) (w : Work) (d : Deed) (ts : List Task) → c.turns ≡ n → FallsBy n u (does_deed p c w d ts)
-  f_deed c w (Body d s) ts e = f_some c (deinit_of p.core.deinits d) _ (λ k q. f_begun (with_work c (Drops (PartsOf s ∷ ts) w)) s (slice_get p.core.funs k) e)
+  f_deed c w (Body d s) ts e = f_some c (deinit_of p.core.deinits d) _
+      (λ k q. f_begun (with_work c (Drops (PartsOf s ∷ ts) w)) d s (slice_get p.core.funs k) e)
   f_deed c w (EachOf k s) ts e = f_turn (count_one c) c.turns _ e (λ m lt. takes lt)
   f_deed c w (Element s) ts e = f_turn c c.turns _ e (λ m lt. takes lt)
 
@@ -451,7 +463,7 @@ module _ (n u : ℕ) (p : Setting) where
   f_tasks c w (Do d ∷ ts) e lt = f_deed c w d ts e
   f_tasks c w (Value s ∷ ts) e lt = λ v. f_first c w (deeds p.core.deinits s v) ts (does_tasks p c w ts) e (f_tasks c w ts e lt)
   f_tasks c w (PartsOf s ∷ ts) e lt = λ v. f_first c w (part_deeds p.core.deinits s v) ts (does_tasks p c w ts) e (f_tasks c w ts e lt)
-  f_tasks c w (Unsets s ∷ ts) e lt = f_tasks c w ts e lt
+  f_tasks c w (Unsets s ∷ ts) e lt = λ v. f_clears s (is_blank v) (does_tasks p c w ts) (f_tasks c w ts e lt)
 
   f_drop : (stage : Stage) (c : Control) (x : Place) → Has 2 c → FallsBy n u (drop p stage c x)
   f_drop Deinitialises c x h =

@@ -1,4 +1,4 @@
--- A checked core that has a flow is calm in every run.
+-- A core that has a flow is calm in every run.
 use Rattle.std.proofs.Common.{◌≡◌, ◌≢◌, ◌⊎◌, inl, inr, ⊎_elim, ℕ, zero, suc, ◌+◌, Bool, true, false, cond, List, [], ◌∷◌, length, Option, Some, None}
 use Rattle.std.proofs.Common.{slice_get, refl, sym, ap, ◌∙◌, subst, arith}
 use Rattle.std.proofs.lemmas.Bool.Decides.{eqb_tells}
@@ -11,28 +11,33 @@ use Rattle.hy_core.specs.Runs as effect
 use Rattle.hy_core.specs.Runs.{Interaction, Fetch, Inspect, Perform, Return, apply, interpret, steps}
 use Rattle.hy_core.specs.Operators.{same_flags}
 use Rattle.hy_core.specs.Calm.{StaysCalm}
-use Rattle.hy_core.specs.Control.{Form, form, local_type, Work, Idle, Rest, Loop, Test, Drops, Dest, Opens, Nowhere, Activation, Nap, Halt, Ends, Stuck}
+use Rattle.hy_core.specs.Control.{Form, form, local_type, Value, Unsets, Work, Idle, Rest, Loop, Test}
+use Rattle.hy_core.specs.Control.{Drops, Dest, Opens, Nowhere, Activation, Nap, Halt, Ends, Stuck}
 use Rattle.hy_core.specs.Control.{NotSet, NotOpened, Control, Stage, Deinitialises, GivesUp, Setting, stop, with_work, key, count_one, with_some, trapped}
 use Rattle.hy_core.specs.Control.{turn, with_flag, spot, read, take, write, read_number, read_flag, read_array, sleeper_of, wake}
 use Rattle.hy_core.specs.Control as control
 use Rattle.hy_core.specs.Statements.{constant, Charge, Paid, Unpaid, charge, charged, begun, hand_all, enter, is_counted, drop, broken, continued, does}
 use Rattle.hy_core.specs.Statements.{tested, goes_on, interaction_of, interaction, begins_with, start}
-use Rattle.hy_core.specs.Typing.{Among, Distinct}
+use Rattle.hy_core.specs.Typing.{Among, Distinct, still}
 use Rattle.hy_core.specs.Shaped.{ShapedAll, IsShaped, Shaped}
 use Rattle.hy_core.specs.Flow.{Holder, InLocal, InSubscript, OpenPlace, Own, FlowState, Signature, Context, with_open_place, IsOpen, IsShutAt, StoreOk}
 use Rattle.hy_core.specs.Flow.{GiveOk, given, stored, FlowsInto, Stores, Closes, Slides, HandsOk, come_from, held_by, TakesOk, all_given, Calls, Projects}
-use Rattle.hy_core.specs.Flow.{Around, NoLoop, InLoop, Transfers, first_status, first, BodyFlows, context_of, signatures_of}
+use Rattle.hy_core.specs.Flow.{Around, NoLoop, InLoop, Transfers, first_status, first, BodyFlows, context_of}
+use Rattle.hy_core.specs.Flow.{signatures_of, signature_of, HasFlow, where_is, set_to}
 use Rattle.hy_core.proofs.OpenPlaces.{Sound, nothing_open}
 use Rattle.hy_core.proofs.CalmWalks.{Slots, at, mem, Fine, over, stands, Good, good_calm, good_next, good_sound, GoodAt, Is, Listed, View, good_tell}
-use Rattle.hy_core.proofs.CalmWalks.{good_some, good_turn, good_flag, good_if, good_local, may_write, good_spot, good_take}
-use Rattle.hy_core.proofs.CalmFrames.{Passes, passes_self, passes_on, flows_pass, AroundBy, WorkFlows, BreakFlows, AgainFlows, break_flows, again_flows, Sl}
+use Rattle.hy_core.proofs.CalmWalks.{good_some, good_turn, good_flag, good_if, good_local, may_write, good_spot, good_spot_drop, good_take}
+use Rattle.hy_core.proofs.CalmFrames.{Passes, passes_self, passes_on, flows_pass, where_pass, AroundBy}
+use Rattle.hy_core.proofs.CalmFrames.{WorkFlows, BreakFlows, AgainFlows, break_flows, again_flows, Sl}
 use Rattle.hy_core.proofs.CalmFrames.{Runs, Waits, Fits, Half, listed_map, half_pass, context, waits, Others, Stands, view}
-use Rattle.hy_core.proofs.CalmSteps.{Like, like_self, like_with, like_count, like_id}
-use Rattle.hy_core.proofs.CalmStatements.{given_pass, stored_pass, all_given_pass, come_from_pass, come_from_back, closes_end, slides_end, fine, fine_work}
+use Rattle.hy_core.proofs.CalmSteps.{Like, like_self, like_with, like_count, like_id, like_stands}
+use Rattle.hy_core.proofs.CalmDrops.{may_more, tasks_good}
+use Rattle.hy_core.proofs.CalmStatements.{given_pass, set_pass, stored_pass, all_given_pass, come_from_pass}
+use Rattle.hy_core.proofs.CalmStatements.{come_from_back, closes_end, slides_end, fine, fine_work}
 use Rattle.hy_core.proofs.CalmStatements.{takes, values, stores, built_good}
 use Rattle.hy_core.proofs.CalmBodies.{lend_good, close_good, leave_good, slide_good}
 use Rattle.hy_core.specs.Meaning.{Run, setting, TouchesCalmly, NeverHalts}
-use Rattle.hy_core.specs.Ready.{Ready, ReadyCoresAgree}
+use Rattle.hy_core.specs.Ready.{FlowAgrees, ReadyCoresAgree}
 use Rattle.hy_core.proofs.LockStep.{meanings_agree}
 use Rattle.hy_core.proofs.CalmRuns.{Handing, Handed, handing_first, AllHanded, hands_good, moves_good, are_lent, waiting_half, begins_so, yield_good, open_of}
 
@@ -62,8 +67,8 @@ handed_open x h s i [] l ok own m = m
 handed_open x h s i (k ∷ ls) l ok own (inl e) = subst (λ st. IsOpen st (s.lent i).way) (ap h.status (sym e) ∙ own) ok.0.status
 handed_open x h s i (k ∷ ls) l ok own (inr m) = handed_open x h s (suc i) ls l ok.1 own m
 
-module _ (p : Setting) (signatures : ℕ → Signature) (stage : p.stage ≡ GivesUp) (sh : Shaped p.core)
-    (each : (n : ℕ) (f : Fun) → slice_get p.core.funs n ≡ Some f → BodyFlows (context_of GivesUp p.core signatures n f)) where
+module _ (p : Setting) (signatures : ℕ → Signature) (signs : (n : ℕ) → signatures n ≡ signature_of (slice_get p.core.funs n)) (sh : Shaped p.core)
+    (each : (n : ℕ) (f : Fun) → slice_get p.core.funs n ≡ Some f → BodyFlows (context_of p.stage p.core signatures n f)) where
   abbrev pub TS : Option Halt → Control → Slots → Type 0
   TS = Stands p signatures
 
@@ -73,7 +78,7 @@ module _ (p : Setting) (signatures : ℕ → Signature) (stage : p.stage ≡ Giv
     x = context p signatures number c.now.fun
 
     abbrev Left : FlowState → Type 0
-    Left d = WorkFlows (context p signatures number c.now.fun) c.now.work d
+    Left d = WorkFlows (context p signatures number c.now.fun) c.now.id c.now.work d
 
     abbrev HandedTo : Signature → ℕ → List ℕ → Key → Origin → Type 0
     HandedTo s i ls k o = Handed p signatures c slots number g half others s i ls k o
@@ -250,10 +255,40 @@ module _ (p : Setting) (signatures : ℕ → Signature) (stage : p.stage ≡ Giv
     -- STATEMENTS
 
     drop_good : (place : Place) (d : FlowState) → GiveOk (context p signatures number c.now.fun) g place
-        → FlowsInto (context p signatures number c.now.fun) (given (context p signatures number c.now.fun) g place) d → Left d → (s : Stage) → s ≡ GivesUp
+        → FlowsInto (context p signatures number c.now.fun) (given (context p signatures number c.now.fun) g place) d → Left d → (s : Stage)
         → GoodAt (TS c.halt) (drop p s c place) slots
-    drop_good place d ok flows w Deinitialises e = absurd (cc)
-    drop_good place d ok flows w GivesUp e = good_take p (TS c.halt) slots g c.now.id now_view (Like c) (like_count c) (like_id c) place _ ok.exact ok.free
+    drop_good place d ok flows w Deinitialises = good_spot_drop p (TS c.halt) slots g c.now.id now_view (Like c) (like_count c) (like_id c) place _ ok.exact
+        ok.free (λ e l. stands (like_stands p signatures c.halt c e slots l (record {
+          same = refl;
+          number = number;
+          flow = d;
+          half = half_pass slots (sleeper_of c.asleep) Runs c.now.id (length (lent_types c.now.fun)) g d passes half;
+          goes = w;
+          others = others;
+        })))
+        (λ e vals u t l s begins there. subst (λ (e : Control). Good (TS c.halt)
+        (Return (with_work e (Drops (Value (record { key = at c.now.id place.local; path = u }) ∷ Unsets (record { key = at c.now.id place.local; path = u })
+        ∷ []) e.now.work))) (mem slots vals)) (sym l.is)
+        (fine_work p signatures (record c { turns = l.turns; opened = l.opened; input = l.input; output = l.output }) slots number g half others g
+        (Drops (Value (record { key = at c.now.id place.local; path = u }) ∷ Unsets (record { key = at c.now.id place.local; path = u }) ∷ []) c.now.work)
+        (passes_self g) (
+          (
+            (refl, may_more g place.local (still place.steps) u begins ok.free),
+            (
+              (
+                refl,
+                may_more g place.local (still place.steps) u begins
+                    ok.free,
+              ),
+              tt,
+            ),
+          ),
+          (d, passes, w),
+        ) vals s)) c (like_self c)
+      where
+        passes : Passes g d
+        passes = passes_on g (given x g place) d (given_pass x g place) (flows_pass x _ d flows)
+    drop_good place d ok flows w GivesUp = good_take p (TS c.halt) slots g c.now.id now_view (Like c) (like_count c) (like_id c) place _ ok.exact ok.free
         (λ e v l. fine p signatures c slots number g half others d (passes_on g (given x g place) d (given_pass x g place) (flows_pass x _ d flows)) w e l)
         c (like_self c)
 
@@ -266,8 +301,8 @@ module _ (p : Setting) (signatures : ℕ → Signature) (stage : p.stage ≡ Giv
 
     statement_good : (a : Around (context p signatures number c.now.fun)) (s : Stmt) (d : FlowState)
         → Transfers (context p signatures number c.now.fun) a g s d → IsShaped p.core c.now.fun s → Left d
-        → AroundBy (context p signatures number c.now.fun) a (BreakFlows (context p signatures number c.now.fun) c.now.work)
-        (AgainFlows (context p signatures number c.now.fun) c.now.work) → GoodAt (TS c.halt) (does p c s) slots
+        → AroundBy (context p signatures number c.now.fun) a (BreakFlows (context p signatures number c.now.fun) c.now.id c.now.work)
+        (AgainFlows (context p signatures number c.now.fun) c.now.id c.now.work) → GoodAt (TS c.halt) (does p c s) slots
     statement_good a (Built o to from spans) d t is w out = built_good p signatures c slots number g half others o to from spans d t w c (like_self c)
     statement_good a (Set to n) d t is w out =
         good_spot p (TS c.halt) slots g c.now.id now_view (Like c) (like_count c) (like_id c) Writes to _ t.0.indexes t.0.free
@@ -275,7 +310,7 @@ module _ (p : Setting) (signatures : ℕ → Signature) (stage : p.stage ≡ Giv
         good_some p (TS c.halt) e (constant (form p.core.types ty) n) _ (mem slots vals) (λ v _.
         good_tell p (TS c.halt) (effect.Store (record { key = at c.now.id to.local; path = u }) v) (Return e) (mem slots vals) s
         (may_write p (TS c.halt) slots g c.now.id now_view (Like c) (like_count c) (like_id c) vals to.local _ u t.0.free begins there)
-        (λ s. fine p signatures c slots number g half others d (passes_on g (stored x g to) d (stored_pass x g to) (flows_pass x _ d t.1)) w e l _ s))) c
+        (λ s. fine p signatures c slots number g half others d (passes_on g (set_to x g to n) d (set_pass x g to n) (flows_pass x _ d t.1)) w e l _ s))) c
         (like_self c)
     statement_good a (Lend to place true) d t is w out =
         lend_good p signatures c slots number g half others to place Writes (is_counted place.steps) d t.0 t.1 w
@@ -290,7 +325,7 @@ module _ (p : Setting) (signatures : ℕ → Signature) (stage : p.stage ≡ Giv
     statement_good a (Copy to from) d t is w out = let st : Stores (context p signatures number c.now.fun) g (Some to) d = t.2 in
         values p signatures c slots number g half others g (passes_self g) from _ t.0 (λ v e l. copy_good to d st w v (charge v e.turns e.opened) e l) c
         (like_self c)
-    statement_good a (Drop place) d t is w out = drop_good place d t.0 t.2 w p.stage stage
+    statement_good a (Drop place) d t is w out = drop_good place d t.0 t.2 w p.stage
     statement_good a (Call n lent owned to) d t is w out = call_good n lent owned to d is.7 t w
     statement_good a (Project n lent owned to) d t is w out = project_good n lent owned to d is.7 t w
     statement_good a (Slide l) d t is w out = let sl : Slides (context p signatures number c.now.fun) g l d = t.2 in
@@ -306,10 +341,10 @@ module _ (p : Setting) (signatures : ℕ → Signature) (stage : p.stage ≡ Giv
       where
         branch : (b : Bool) → GoodAt (TS c.halt) (Return (with_work c (Rest (cond b u v) c.now.work))) slots
         branch true =
-            fine_work p signatures c slots number g half others g (Rest u c.now.work) (passes_self g)
+            fine_work p signatures c slots number g half others (where_is x g on true) (Rest u c.now.work) (where_pass x g on true)
             (record { around = a; last = d; transfers = t.2; shaped = is.1; outer = out; next = w })
         branch false =
-            fine_work p signatures c slots number g half others g (Rest v c.now.work) (passes_self g)
+            fine_work p signatures c slots number g half others (where_is x g on false) (Rest v c.now.work) (where_pass x g on false)
             (record { around = a; last = d; transfers = t.3; shaped = is.2; outer = out; next = w })
     statement_good a (While head on body) d t is w out =
         fine_work p signatures c slots number g half others g (Loop head on body c.now.work) (passes_self g) (record {
@@ -332,10 +367,10 @@ module _ (p : Setting) (signatures : ℕ → Signature) (stage : p.stage ≡ Giv
         })
     statement_good NoLoop Break d t is w out = absurd t
     statement_good (InLoop behind again) Break d t is w out = λ vals s. good_some p (TS c.halt) c (broken c.now.work) _ (mem slots vals) (λ v e.
-        fine_work p signatures c slots number g half others behind v (flows_pass x g behind t) (break_flows x c.now.work v behind e out.0) vals s)
+        fine_work p signatures c slots number g half others behind v (flows_pass x g behind t) (break_flows x c.now.id c.now.work v behind e out.0) vals s)
     statement_good NoLoop Continue d t is w out = absurd t
     statement_good (InLoop behind again) Continue d t is w out = λ vals s. good_some p (TS c.halt) c (continued c.now.work) _ (mem slots vals) (λ v e.
-        fine_work p signatures c slots number g half others again v (flows_pass x g again t) (again_flows x c.now.work v again e out.1) vals s)
+        fine_work p signatures c slots number g half others again v (flows_pass x g again t) (again_flows x c.now.id c.now.work v again e out.1) vals s)
     statement_good a (Leave from) d t is w out = leave_good p signatures c slots number g half others from t.0 t.1
 
   -- RUNS
@@ -343,7 +378,7 @@ module _ (p : Setting) (signatures : ℕ → Signature) (stage : p.stage ≡ Giv
   goes_good : (c : Control) (slots : Slots) (number : ℕ) (g : FlowState)
       (half : Half slots (sleeper_of c.asleep) Runs c.now.id (length (lent_types c.now.fun)) g)
       (others : Others p signatures slots (sleeper_of c.asleep) c.now.id c.started (waits p signatures c.now number) c.callers) (w : Work)
-      → WorkFlows (context p signatures number c.now.fun) w g → GoodAt (TS c.halt) (goes_on p c w) slots
+      → WorkFlows (context p signatures number c.now.fun) c.now.id w g → GoodAt (TS c.halt) (goes_on p c w) slots
   goes_good c slots number g half others Idle t = λ vals s. over Stuck refl (λ e. absurd (cc))
   goes_good c slots number g half others (Rest Done w) t =
       fine_work p signatures c slots number g half others t.last w (flows_pass (context p signatures number c.now.fun) g t.last t.transfers) t.next
@@ -369,7 +404,10 @@ module _ (p : Setting) (signatures : ℕ → Signature) (stage : p.stage ≡ Giv
       (λ y vals s. good_flag p (TS c.halt) c y (tested c head on body w) (mem slots vals) (λ b. pass b vals s))
     where
       on_turn : (j : ℕ) → GoodAt (TS c.halt) (Return (with_work (record c { turns = j }) (Rest body (Loop head on body w)))) slots
-      on_turn j = fine_work p signatures (record c { turns = j }) slots number g half others t.loop.test (Rest body (Loop head on body w)) t.flows
+      on_turn j = fine_work p signatures (record c { turns = j }) slots number g half others
+          (where_is (context p signatures number c.now.fun) t.loop.test on true)
+          (Rest body (Loop head on body w))
+          (passes_on g t.loop.test _ t.flows (where_pass (context p signatures number c.now.fun) t.loop.test on true))
           (record {
             around = InLoop t.loop.out t.first;
             last = t.first;
@@ -382,9 +420,11 @@ module _ (p : Setting) (signatures : ℕ → Signature) (stage : p.stage ≡ Giv
 
       pass : (b : Bool) → GoodAt (TS c.halt) (tested c head on body w b) slots
       pass false = fine_work p signatures c slots number g half others t.loop.out w
-          (passes_on g t.loop.test t.loop.out t.flows (flows_pass (context p signatures number c.now.fun) t.loop.test t.loop.out t.loop.leaves)) t.loop.next
+          (passes_on g t.loop.test t.loop.out t.flows (passes_on t.loop.test _ t.loop.out
+          (where_pass (context p signatures number c.now.fun) t.loop.test on false)
+          (flows_pass (context p signatures number c.now.fun) _ t.loop.out t.loop.leaves))) t.loop.next
       pass true = λ vals s. good_turn p (TS c.halt) c c.turns _ (mem slots vals) (λ j. on_turn j vals s)
-  goes_good c slots number g half others (Drops ts w) t = absurd t
+  goes_good c slots number g half others (Drops ts w) t = tasks_good p signatures signs sh each c slots number g half others w ts t.0 t.1
 
   pub step_good : (c : Control) (m : Copies) → Fine (TS None) c m.opened → Sound m → Good (TS None) (interaction p c) m
   step_good c m fi s = go c.halt refl fi
@@ -458,13 +498,16 @@ module _ (p : Setting) (signatures : ℕ → Signature) (stage : p.stage ≡ Giv
       → (steps copying (interaction p) k (start p.core input turns) no_copies).control.halt ≢ Some NotOpened
   closing_from_start k input turns = stays_closing k (start p.core input turns) no_copies (start_fine input turns) nothing_open
 
--- every run of a ready core touches nothing that overlaps what is open
-pub ready_is_calm : (r : Run) → r.stage ≡ GivesUp → Ready r.core → TouchesCalmly r
-ready_is_calm r e ready k = calm_from_start (setting r) (signatures_of r.core) e ready.shaped ready.flow.each k r.input r.turns
+-- every run of a core that has a flow touches nothing that overlaps what is open
+pub flow_touches_calmly : (r : Run) → Shaped r.core → HasFlow r.stage r.core → TouchesCalmly r
+flow_touches_calmly r sh flow k = calm_from_start (setting r) (signatures_of r.core) (λ n. refl) sh flow.each k r.input r.turns
+
+pub flow_agrees : FlowAgrees
+flow_agrees r sh flow = meanings_agree r (flow_touches_calmly r sh flow)
 
 pub ready_cores_agree : ReadyCoresAgree
-ready_cores_agree r e ready = meanings_agree r (ready_is_calm r e ready)
+ready_cores_agree r e ready = flow_agrees r ready.shaped (subst (λ s. HasFlow s r.core) (sym e) ready.flow)
 
 -- a `Close` ends only what a `Lend` of its body opened, and a `Slide` only what a `Project` of it opened
-pub ready_cores_close_their_own : (r : Run) → r.stage ≡ GivesUp → Ready r.core → NeverHalts r NotOpened
-ready_cores_close_their_own r e ready k = closing_from_start (setting r) (signatures_of r.core) e ready.shaped ready.flow.each k r.input r.turns
+pub flow_closes_its_own : (r : Run) → Shaped r.core → HasFlow r.stage r.core → NeverHalts r NotOpened
+flow_closes_its_own r sh flow k = closing_from_start (setting r) (signatures_of r.core) (λ n. refl) sh flow.each k r.input r.turns

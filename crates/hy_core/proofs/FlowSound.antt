@@ -1,5 +1,6 @@
 -- The computed flow of a body is a flow of it.
 use Rattle.std.proofs.Common.{◌≡◌, ◌≢◌, ◌⊎◌, inl, inr, ⊎_elim, ℕ, zero, suc, ◌<◌, ◌≤◌, ◌+◌, ◌==◌, nat_lt, Bool, true, false, not, ◌&&◌, ◌||◌, cond, List}
+use Rattle.std.specs.Prelude.{ℤ}
 use Rattle.std.proofs.Common.{[], ◌∷◌, ◌++◌, length, Option, Some, None, slice_get, refl, sym, ap, ◌∙◌, subst, arith}
 use Rattle.std.proofs.lemmas.Bool.Decides.{eqb_tells}
 use Rattle.std.proofs.lemmas.Bool.{ltb-true, ltb-false}
@@ -9,28 +10,33 @@ use Rattle.hy_core.specs.Plain.{Step, Part, Index, Place, Operator, Add, Sub, Mu
 use Rattle.hy_core.specs.Plain.{Count, FreeArray, Print, Read, Check, Stmts, Done, Then, Stmt, Built, Set, Lend, Close, Move, Copy, Drop, Call, Project}
 use Rattle.hy_core.specs.Plain.{Slide, Yield, If, While, Break, Continue, Leave, Way, Reads, Writes, Fun, lent_types, is_ramp, Core}
 use Rattle.hy_core.specs.Values.{Path}
-use Rattle.hy_core.specs.Control.{local_type, Stage, Deinitialises, GivesUp}
+use Rattle.hy_core.specs.Control.{Form, Numbers, Flags, Tuples, Products, Arrays, Unknown, form, local_type, Stage, Deinitialises, GivesUp}
 use Rattle.hy_core.specs.Statements.{way}
 use Rattle.hy_core.specs.Typing.{Among, place_type, still, still_type}
 use Rattle.hy_core.specs.Shaped.{filled_by}
 use Rattle.hy_core.specs.Flow as rule
-use Rattle.hy_core.specs.Flow.{InitState, IsSet, IsUnset, InitMap, all_set, none_set, Holder, InLocal, InSubscript, OpenPlace, Loan, Status, Own, Param}
+use Rattle.hy_core.specs.Flow.{InitState, IsSet, IsUnset, IsKnown, IsDoubtful, IsSetWith, IsSetSo, IsUntied, IsFlag, Knows, Becomes, where_is, set_to}
+use Rattle.hy_core.specs.Flow.{stored_as, constant_state, form_or_unknown, InitMap, all_set, none_set}
+use Rattle.hy_core.specs.Flow.{Holder, InLocal, InSubscript, OpenPlace, Loan, Status, Own, Param}
 use Rattle.hy_core.specs.Flow.{Opened, Bound, FlowState, Terms, Signature, Context, set_local, with_init, with_status, with_open_place, IsOpen, IsInLocal}
 use Rattle.hy_core.specs.Flow.{IsShutAt, MayReadAt, MayWriteAt, MayOpenAt, IndexesOk, IsLive, still_map, IsSetAt, IsLocalSet, IsLocalUnset, IsEntered}
 use Rattle.hy_core.specs.Flow.{NoArray, ReadOk, ChangeOk, StoreOk, GiveOk, TakeOk, FlowsInto, given, stored_if, stored, Stores, Computes, opened}
 use Rattle.hy_core.specs.Flow.{IsLendable, IsFree, LendOk, come_back, ComesBack, Without, Closes, Slides, HandOk, HandsOk, come_from, held_by, TakesOk}
 use Rattle.hy_core.specs.Flow.{all_given, Calls, Projects, IsDropped, IsCopied, Frees, IsLeft, IsLast, TransfersBuilt, Around, NoLoop, InLoop, TransfersAll}
 use Rattle.hy_core.specs.Flow.{Transfers, first_status, first, BodyFlows, context_of, signatures_of, HasFlow, is_exact, way_of}
-use Rattle.hy_core.specs.FlowOf.{every, member, are_apart, way_eq, bool_eq, init_eq, holder_eq, open_place_eq, status_eq, is_own, is_open, in_local}
+use Rattle.hy_core.specs.FlowOf.{every, member, are_apart, way_eq, bool_eq, is_set_so, is_unset, is_doubtful, is_set_with, counts}
+use Rattle.hy_core.specs.FlowOf.{is_core, is_flags, holder_eq, open_place_eq, status_eq, is_own, is_open, in_local}
 use Rattle.hy_core.specs.FlowOf.{if_some, every_leaf, depth_of, Exits, goes_to, and_then, is_none, when, locals, each_local, each_open_place, is_shut}
 use Rattle.hy_core.specs.FlowOf.{may_read, may_write, may_open, indexes_ok, is_live, set_place, local_is, entered, no_array, read_ok, change_ok, store_ok}
 use Rattle.hy_core.specs.FlowOf.{give_ok, take_ok, flows_into, flows_in, meet, meet_exits, either, stores, computes, is_free, lendable, lend_ok, without}
 use Rattle.hy_core.specs.FlowOf.{comes_back, closed, closes, slid, slides, hand_ok, hands_ok, takes_ok, calls, projects, dropped, copied, frees, left}
 use Rattle.hy_core.specs.FlowOf.{is_last, built_flow, ends, condition_ok, follows, passes, loops, at_head, flow_all, flow_one, is_whole_flow, body_flows}
-use Rattle.hy_core.specs.FlowOf.{each_flows, has_flow}
+use Rattle.hy_core.specs.FlowOf.{each_flows, has_flow, untied, is_flag, knows, becomes, joined, loop_from, after_pass, or_from}
+use Rattle.hy_core.proofs.FlowStates.{becomes_self, becomes_on}
 use Rattle.hy_core.proofs.CalmFrames.{at_local}
 use Rattle.hy_core.proofs.CalmStatements.{all_given_pass, come_from_pass}
-use Rattle.hy_core.proofs.FlowTests.{and_l, and_r, or_is, not_is, nat_not, way_is, bool_is, init_is, holder_is, open_place_is, status_is, open_is}
+use Rattle.hy_core.proofs.FlowTests.{and_l, and_r, or_is, not_is, nat_not, way_is, bool_is, set_so_is, unset_is, known_is, doubtful_is}
+use Rattle.hy_core.proofs.FlowTests.{set_with_is, set_with_not, counts_is, holder_is, open_place_is, status_is, open_is}
 use Rattle.hy_core.proofs.FlowTests.{in_local_is, apart_is, every_is, every_all, some_passes, member_not, if_some_is, leaf_is, each_sound, array_sound}
 
 -- CONDITIONS
@@ -130,8 +136,8 @@ module _ (x : Context) where
   indexes_are g (Index l s ∷ steps) h =
       let r = and_r (may_read x g l []) _ h in (
         read_at_is g l [] (and_l (may_read x g l []) _ h),
-        init_is (g.init l []) IsSet (and_l (init_eq (g.init l []) IsSet) _ r),
-        indexes_are g steps (and_r (init_eq (g.init l []) IsSet) _ r),
+        set_so_is (g.init l []) (and_l (is_set_so (g.init l [])) _ r),
+        indexes_are g steps (and_r (is_set_so (g.init l [])) _ r),
       )
 
   live_is : (g : FlowState) (l : ℕ) → is_live x g l ≡ true → IsLive x g l
@@ -154,10 +160,17 @@ module _ (x : Context) where
 
   no_array_by : (g : FlowState) (p : Place) (b : Bool) → no_array x g p b ≡ true → NoArray x g p b
   no_array_by g p true h =
-      λ t e q a. init_is (still_map x g p q) IsUnset (array_sound x.core.types t (λ q. init_eq (still_map x g p q) IsUnset)
+      λ t e q a. unset_is (still_map x g p q) (array_sound x.core.types t (λ q. is_unset (still_map x g p q))
       (if_some_is (place_type x.core.types x.fun p) _ t h e) q a)
   no_array_by g p false h = λ t e q a. let z : false ≡ true =
       array_sound x.core.types t (λ q. false) (if_some_is (place_type x.core.types x.fun p) _ t h e) q a in absurd (cc)
+
+  untied_is : (g : FlowState) (f : ℕ) → untied x g f ≡ true → IsUntied x g f
+  untied_is g f h l t q e leaf = set_with_not f (g.init l q) (not_is (is_set_with f (g.init l q))
+      (leaf_is x.core.types (depth_of x.core.types) t (λ q. not (is_set_with f (g.init l q))) (if_some_is (local_type x.fun l) _ t
+      (below_is (locals x) (λ l. if_some (local_type x.fun l)
+      (λ t. every_leaf x.core.types (depth_of x.core.types) t (λ a q. not (is_set_with f (g.init l q)))))
+      x l h (local_there l t e)) e) q leaf))
 
   read_is : (g : FlowState) (p : Place) → read_ok x g p ≡ true → ReadOk x g p
   read_is g p h =
@@ -197,7 +210,8 @@ module _ (x : Context) where
             write_at_is g p.local (still p.steps) (and_l (may_write x g p.local (still p.steps)) _ b);
         entered =
             entered_by g p (is_exact p.steps) (and_l (entered x g p) _ c);
-        over = no_array_by g p (is_exact p.steps) (and_r (entered x g p) _ c);
+        over = no_array_by g p (is_exact p.steps) (and_l (no_array x g p (is_exact p.steps)) _ (and_r (entered x g p) _ c));
+        untied = untied_is g p.local (and_r (no_array x g p (is_exact p.steps)) _ (and_r (entered x g p) _ c));
       }
 
   give_is : (g : FlowState) (p : Place) → give_ok x g p ≡ true → GiveOk x g p
@@ -207,7 +221,8 @@ module _ (x : Context) where
         live = live_is g p.local (and_l (is_live x g p.local) _ h);
         exact = and_l (is_exact p.steps) _ a;
         free =
-            write_at_is g p.local (still p.steps) (and_r (is_exact p.steps) _ a);
+            write_at_is g p.local (still p.steps) (and_l (may_write x g p.local (still p.steps)) _ (and_r (is_exact p.steps) _ a));
+        untied = untied_is g p.local (and_r (may_write x g p.local (still p.steps)) _ (and_r (is_exact p.steps) _ a));
       }
 
   take_is : (g : FlowState) (p : Place) → take_ok x g p ≡ true → TakeOk x g p
@@ -220,22 +235,55 @@ module _ (x : Context) where
   Outside g = (l : ℕ) → locals x ≤ l → g.status l ≡ Own
 
   pub flows_self : (g : FlowState) → FlowsInto x g g
-  flows_self g = record { status = λ l. refl; init = λ l t q e i. refl; open_places = λ e a. a; yielded = refl }
+  flows_self g = record { status = λ l. refl; init = λ l t q e i. becomes_self x g (g.init l q); open_places = λ e a. a; yielded = refl }
 
   pub flows_on : (g h d : FlowState) → FlowsInto x g h → FlowsInto x h d → FlowsInto x g d
   flows_on g h d a b = record {
     status = λ l. a.status l ∙ b.status l;
-    init = λ l t q e i. a.init l t q e i ∙ b.init l t q e i;
+    init = λ l t q e i. becomes_on x g h a.init (g.init l q) (h.init l q) (d.init l q) (a.init l t q e i) (b.init l t q e i);
     open_places =
         λ e m. b.open_places e (a.open_places e m);
     yielded = a.yielded ∙ b.yielded;
   }
 
+  flag_is : (f : ℕ) → is_flag x f ≡ true → IsFlag x f
+  flag_is f h = by (local_type x.fun f) refl h
+    where
+      flags : (a : Form) → is_flags a ≡ true → a ≡ Flags
+      flags (Numbers t) h = absurd (cc)
+      flags Flags h = refl
+      flags (Tuples parts) h = absurd (cc)
+      flags (Products d parts) h = absurd (cc)
+      flags (Arrays t) h = absurd (cc)
+      flags Unknown h = absurd (cc)
+
+      by : (o : Option TyId) → local_type x.fun f ≡ o → is_flags (form_or_unknown x o) ≡ true → IsFlag x f
+      by None e h = absurd (cc)
+      by (Some t) e h = (t, e, flags (form x.core.types t) h)
+
+  knows_is : (g : FlowState) (f : ℕ) (b : Bool) → knows x g f b ≡ true → Knows x g f b
+  knows_is g f b h = (flag_is f (and_l (is_flag x f) _ h), known_is b (g.init f []) (and_r (is_flag x f) _ h))
+
+  core_is : (s : Stage) → is_core s ≡ true → s ≡ Deinitialises
+  core_is Deinitialises h = refl
+  core_is GivesUp h = absurd (cc)
+
+  becomes_is : (g : FlowState) (s t : InitState) → becomes x g s t ≡ true → Becomes x g s t
+  becomes_is g s IsSet h = set_so_is s h
+  becomes_is g s IsUnset h = unset_is s h
+  becomes_is g s (IsKnown b) h = known_is b s h
+  becomes_is g s IsDoubtful h = ⊎_elim (λ a. inl (doubtful_is s a)) (λ a. inr (core_is x.stage a)) (or_is (is_doubtful s) (is_core x.stage) h)
+  becomes_is g s (IsSetWith f) h = ⊎_elim (λ a. inl (set_with_is f s a)) (λ a. inr (⊎_elim
+      (λ b. inl (knows_is g f true (and_l (knows x g f true) _ b), set_so_is s (and_r (knows x g f true) _ b)))
+      (λ b. inr (knows_is g f false (and_l (knows x g f false) _ b), unset_is s (and_r (knows x g f false) _ b)))
+      (or_is (knows x g f true && is_set_so s) (knows x g f false && is_unset s) a)))
+      (or_is (is_set_with f s) (knows x g f true && is_set_so s || knows x g f false && is_unset s) h)
+
   flows_is : (g d : FlowState) → Outside g → Outside d → flows_into x g d ≡ true → FlowsInto x g d
   flows_is g d og od h = record {
     status = λ l. ⊎_elim (λ lt. status_is (g.status l) (d.status l) (and_l (status_eq (g.status l) (d.status l)) _ (at l lt))) (λ le. og l le
         ∙ sym (od l le)) (side l (locals x));
-    init = λ l t q e leaf. init_is (g.init l q) (d.init l q) (leaf_is x.core.types (depth_of x.core.types) t (λ q. init_eq (g.init l q) (d.init l q))
+    init = λ l t q e leaf. becomes_is g (g.init l q) (d.init l q) (leaf_is x.core.types (depth_of x.core.types) t (λ q. becomes x g (g.init l q) (d.init l q))
         (if_some_is (local_type x.fun l) _ t (and_r (status_eq (g.status l) (d.status l)) _ (at l (local_there l t e))) e) q leaf);
     open_places = λ e m. let r =
         some_passes (open_place_eq e) d.open_places (every_is (λ e. not (every (λ f. not (open_place_eq e f)) d.open_places)) g.open_places e
@@ -246,17 +294,17 @@ module _ (x : Context) where
     where
       f : ℕ → Bool
       f l = status_eq (g.status l) (d.status l) && if_some (local_type x.fun l)
-          (λ t. every_leaf x.core.types (depth_of x.core.types) t (λ a q. init_eq (g.init l q) (d.init l q)))
+          (λ t. every_leaf x.core.types (depth_of x.core.types) t (λ a q. becomes x g (g.init l q) (d.init l q)))
 
       rest : (every (λ e. not (every (λ f. not (open_place_eq e f)) d.open_places)) g.open_places && bool_eq g.yielded d.yielded) ≡ true
       rest = and_r (each_local x (locals x) (λ l. status_eq (g.status l) (d.status l) && if_some (local_type x.fun l)
-          (λ t. every_leaf x.core.types (depth_of x.core.types) t (λ a q. init_eq (g.init l q) (d.init l q))))) _ h
+          (λ t. every_leaf x.core.types (depth_of x.core.types) t (λ a q. becomes x g (g.init l q) (d.init l q))))) _ h
 
       at : (l : ℕ) → l < locals x
           → (status_eq (g.status l) (d.status l) && if_some (local_type x.fun l)
-          (λ t. every_leaf x.core.types (depth_of x.core.types) t (λ a q. init_eq (g.init l q) (d.init l q)))) ≡ true
+          (λ t. every_leaf x.core.types (depth_of x.core.types) t (λ a q. becomes x g (g.init l q) (d.init l q)))) ≡ true
       at l lt = below_is (locals x) (λ l. status_eq (g.status l) (d.status l) && if_some (local_type x.fun l)
-          (λ t. every_leaf x.core.types (depth_of x.core.types) t (λ a q. init_eq (g.init l q) (d.init l q)))) x l (and_l _ _ h) lt
+          (λ t. every_leaf x.core.types (depth_of x.core.types) t (λ a q. becomes x g (g.init l q) (d.init l q)))) x l (and_l _ _ h) lt
 
   -- where a body goes on leads to a state, if a path leads there
   abbrev pub Into : Option FlowState → FlowState → Type 0
@@ -291,9 +339,17 @@ module _ (x : Context) where
   meet_is (Some a) None c oa ob h = let z : Some a ≡ c = some_is (Some a) c h in
       subst (λ c. Meets (Some a) None c) z (record { outside = oa; into = λ d i. (i, tt); none = λ e. absurd (cc) })
   meet_is (Some a) (Some b) c oa ob h =
-      let r = cond_is (flows_into x b a) (Some (Some a)) c h in
-      let z : Some a ≡ c = some_is (Some a) c r.1 in
-      subst (λ c. Meets (Some a) (Some b) c) z (record { outside = oa; into = λ d i. (i, flows_on b a d (flows_is b a ob oa r.0) i); none = λ e. absurd (cc) })
+      let m = joined x a b in
+      let r = cond_is (flows_into x a m && flows_into x b m) (Some (Some m)) c h in
+      let z : Some m ≡ c = some_is (Some m) c r.1 in
+      subst (λ c. Meets (Some a) (Some b) c) z (record {
+        outside = oa;
+        into = λ d i. (
+          flows_on a m d (flows_is a m oa oa (and_l (flows_into x a m) _ r.0)) i,
+          flows_on b m d (flows_is b m ob oa (and_r (flows_into x a m) _ r.0)) i,
+        );
+        none = λ e. absurd (cc);
+      })
 
   record MeetsAll (next : Option FlowState) (a b e : Exits) : Type 0 where
     next_is : e.next ≡ next
@@ -346,6 +402,13 @@ module _ (x : Context) where
   stored_outside g p o = by (is_exact p.steps)
     where
       by : (b : Bool) → Outside (stored_if x g p b)
+      by true = o
+      by false = o
+
+  set_outside : (g : FlowState) (p : Place) (n : ℤ) → Outside g → Outside (set_to x g p n)
+  set_outside g p n o = by (is_exact p.steps)
+    where
+      by : (b : Bool) → Outside (stored_as x (λ q. constant_state (form_or_unknown x (place_type x.core.types x.fun p)) n) g p b)
       by true = o
       by false = o
 
@@ -492,8 +555,9 @@ module _ (x : Context) where
           unset =
               local_so g to IsUnset (and_l (local_is x g to IsUnset) _ a);
           shut = shut_is g to (and_l (is_shut x g to) _ b);
+          untied = untied_is g to (and_r (nat_lt to (locals x)) _ (and_r (is_shut x g to) _ b));
         },
-        ltb-true to (locals x) (and_r (is_shut x g to) _ b),
+        ltb-true to (locals x) (and_l (nat_lt to (locals x)) _ (and_r (is_shut x g to) _ b)),
       )
 
   lendable_is : (g : FlowState) (p : Place) (w : Way) → lendable x g p w ≡ true → IsLendable x g p w
@@ -546,14 +610,15 @@ module _ (x : Context) where
   close_sound g l Own e o is q = absurd (cc)
   close_sound g l (Param w) e o is q = absurd (cc)
   close_sound g l (Bound w) e o is q = absurd (cc)
-  close_sound g l (Opened loan) e o is q = simple g (closed x g l loan) (Close l) (is_shut x g l && comes_back x g l loan.way loan.exact) e
+  close_sound g l (Opened loan) e o is q = simple g (closed x g l loan) (Close l)
+      (is_shut x g l && (comes_back x g l loan.way loan.exact && (untied x g l && untied x g loan.base))) e
       (own_outside (come_back x g l loan loan.way loan.exact) l none_set (come_back_outside g l loan loan.way loan.exact o)) q
       (λ h a d i. (
         loan,
         is,
         (
           shut_is g l (and_l (is_shut x g l) _ h),
-          comes_is g l loan.way loan.exact (and_r (is_shut x g l) _ h),
+          comes_is g l loan.way loan.exact (and_l (comes_back x g l loan.way loan.exact) _ (and_r (is_shut x g l) _ h)),
           (
             closed x g l loan,
             record {
@@ -565,6 +630,8 @@ module _ (x : Context) where
             },
             i,
           ),
+          untied_is g l (and_l (untied x g l) _ (and_r (comes_back x g l loan.way loan.exact) _ (and_r (is_shut x g l) _ h))),
+          untied_is g loan.base (and_r (untied x g l) _ (and_r (comes_back x g l loan.way loan.exact) _ (and_r (is_shut x g l) _ h))),
         ),
       ))
 
@@ -572,14 +639,16 @@ module _ (x : Context) where
   slide_sound g l Own e o is q = absurd (cc)
   slide_sound g l (Param w) e o is q = absurd (cc)
   slide_sound g l (Opened loan) e o is q = absurd (cc)
-  slide_sound g l (Bound w) e o is q = simple g (slid x g l) (Slide l) (is_shut x g l && local_is x g l IsSet) e (own_outside g l none_set o) q
+  slide_sound g l (Bound w) e o is q = simple g (slid x g l) (Slide l)
+      (is_shut x g l && (local_is x g l IsSet && untied x g l)) e (own_outside g l none_set o) q
       (λ h a d i. (
         w,
         is,
         (
           shut_is g l (and_l (is_shut x g l) _ h),
-          local_so g l IsSet (and_r (is_shut x g l) _ h),
+          local_so g l IsSet (and_l (local_is x g l IsSet) _ (and_r (is_shut x g l) _ h)),
           (slid x g l, record { status = refl; init = refl; open_places = λ e m n. kept_without (InSubscript l) g.open_places e m n; yielded = refl }, i),
+          untied_is g l (and_r (local_is x g l IsSet) _ (and_r (is_shut x g l) _ h)),
         ),
       ))
 
@@ -591,9 +660,10 @@ module _ (x : Context) where
       record {
         status = open_is (g.status l) terms.way (and_l (is_open (g.status l) terms.way) _ h);
         shut = shut_is g l (and_l (is_shut x g l) _ a);
-        init = λ t e q leaf. init_is (g.init l q) (terms.before q)
-            (leaf_is x.core.types (depth_of x.core.types) t (λ q. init_eq (g.init l q) (terms.before q))
-            (if_some_is (local_type x.fun l) _ t (and_r (is_shut x g l) _ a) e) q leaf);
+        init = λ t e q leaf. counts_is (terms.before q) (g.init l q)
+            (leaf_is x.core.types (depth_of x.core.types) t (λ q. counts (terms.before q) (g.init l q))
+            (if_some_is (local_type x.fun l) _ t (and_r (untied x g l) _ (and_r (is_shut x g l) _ a)) e) q leaf);
+        untied = untied_is g l (and_l (untied x g l) _ (and_r (is_shut x g l) _ a));
       }
 
   hands_are : (g : FlowState) (s : Signature) (i : ℕ) (ls : List ℕ) → hands_ok x g s i ls ≡ true → HandsOk x g s i ls
@@ -646,7 +716,7 @@ module _ (x : Context) where
 
   left_is : (s : Stage) (g : FlowState) (l : ℕ) → left x s g l ≡ true → IsLeft x s g l
   left_is Deinitialises g l h =
-      λ t e q a. init_is (g.init l q) IsUnset (array_sound x.core.types t (λ q. init_eq (g.init l q) IsUnset) (if_some_is (local_type x.fun l) _ t h e) q a)
+      λ t e q a. unset_is (g.init l q) (array_sound x.core.types t (λ q. is_unset (g.init l q)) (if_some_is (local_type x.fun l) _ t h e) q a)
   left_is GivesUp g l h = local_so g l IsUnset h
 
   left_outside : (s : Stage) (g : FlowState) (l : ℕ) → locals x ≤ l → IsLeft x s g l
@@ -655,7 +725,7 @@ module _ (x : Context) where
 
   abbrev last_local : FlowState → ℕ → Bool
   last_local g l = cond (nat_lt l (length (lent_types x.fun)))
-      (if_some (local_type x.fun l) (λ t. every_leaf x.core.types (depth_of x.core.types) t (λ a q. init_eq (g.init l q) ((x.signature.lent l).after q))))
+      (if_some (local_type x.fun l) (λ t. every_leaf x.core.types (depth_of x.core.types) t (λ a q. counts ((x.signature.lent l).after q) (g.init l q))))
       (is_own (g.status l) && left x x.stage g l)
 
   last_is : (g : FlowState) → Outside g → is_last x g ≡ true → IsLast x g
@@ -663,8 +733,8 @@ module _ (x : Context) where
     yielded = bool_is g.yielded (is_ramp x.fun) (and_l (bool_eq g.yielded (is_ramp x.fun)) _ h);
     open_places = λ e a. let z : false ≡ true = every_is (λ e. false) g.open_places e (and_l (every (λ e. false) g.open_places) _ rest) a in absurd (cc);
     closed = λ l le. ⊎_elim (λ lt. status_is (g.status l) Own (and_l (is_own (g.status l)) _ (after l lt le))) (λ out. o l out) (side l (locals x));
-    lent = λ l t e q leaf. init_is (g.init l q) ((x.signature.lent l).after q)
-        (leaf_is x.core.types (depth_of x.core.types) t (λ q. init_eq (g.init l q) ((x.signature.lent l).after q))
+    lent = λ l t e q leaf. counts_is ((x.signature.lent l).after q) (g.init l q)
+        (leaf_is x.core.types (depth_of x.core.types) t (λ q. counts ((x.signature.lent l).after q) (g.init l q))
         (if_some_is (local_type x.fun l) _ t (before l (slice_get_within (lent_types x.fun) l t e))
         (slice_front (lent_types x.fun) (x.fun.owned ++ x.fun.locals) l (slice_get_within (lent_types x.fun) l t e) ∙ e)) q leaf);
     left = λ l le. ⊎_elim (λ lt. left_is x.stage g l (and_r (is_own (g.status l)) _ (after l lt le)))
@@ -682,7 +752,7 @@ module _ (x : Context) where
 
       before : (l : ℕ) → l < length (lent_types x.fun)
           → if_some (local_type x.fun l) (λ t. every_leaf x.core.types (depth_of x.core.types) t
-          (λ a q. init_eq (g.init l q) ((x.signature.lent l).after q))) ≡ true
+          (λ a q. counts ((x.signature.lent l).after q) (g.init l q))) ≡ true
       before l lt = let s = shorter in cond_true (nat_lt l (length (lent_types x.fun))) _ _ (lt_true l (length (lent_types x.fun)) lt) (each l (omega arith))
 
       after : (l : ℕ) → l < locals x → length (lent_types x.fun) ≤ l → (is_own (g.status l) && left x x.stage g l) ≡ true
@@ -699,11 +769,11 @@ module _ (x : Context) where
   ends_is Done e f q = (refl, some_is e f q)
   ends_is (Then s ss) e f q = absurd (cc)
 
-  condition_is : (g : FlowState) (on : ℕ) → condition_ok x g on ≡ true → MayReadAt g on [] × (g.init on [] ≡ IsSet) × IsLive x g on
+  condition_is : (g : FlowState) (on : ℕ) → condition_ok x g on ≡ true → MayReadAt g on [] × IsSetSo (g.init on []) × IsLive x g on
   condition_is g on h =
       let a = and_r (is_live x g on) _ h in (
         read_at_is g on [] (and_l (may_read x g on []) _ a),
-        init_is (g.init on []) IsSet (and_r (may_read x g on []) _ a),
+        set_so_is (g.init on []) (and_r (may_read x g on []) _ a),
         live_is g on (and_l (is_live x g on) _ h),
       )
 
@@ -734,12 +804,13 @@ module _ (x : Context) where
   if_sound : (on : ℕ) (u v : Stmts) (g : FlowState) (e : Exits) → Outside g → SoundHere u → SoundHere v → flow_one x (If on u v) g ≡ Some e
       → Sound g (If on u v) e
   if_sound on u v g e o su sv q =
-      let r = cond_is (condition_ok x g on) (and_then (flow_all x u g) (λ e. and_then (flow_all x v g) (either x e))) e q in
+      let r = cond_is (condition_ok x g on) (and_then (flow_all x u (where_is x g on true))
+      (λ e. and_then (flow_all x v (where_is x g on false)) (either x e))) e q in
       let c = condition_is g on r.0 in
-      let a = and_then_is (flow_all x u g) (λ e. and_then (flow_all x v g) (either x e)) e r.1 in
-      let b = and_then_is (flow_all x v g) (either x a.0) e a.2 in
-      let s1 = su g a.0 o a.1 in
-      let s2 = sv g b.0 o b.1 in
+      let a = and_then_is (flow_all x u (where_is x g on true)) (λ e. and_then (flow_all x v (where_is x g on false)) (either x e)) e r.1 in
+      let b = and_then_is (flow_all x v (where_is x g on false)) (either x a.0) e a.2 in
+      let s1 = su (where_is x g on true) a.0 o a.1 in
+      let s2 = sv (where_is x g on false) b.0 o b.1 in
       let n = and_then_is (meet x a.0.next b.0.next) (λ next. meet_exits x next a.0 b.0) e b.2 in
       let next = meet_is a.0.next b.0.next n.0 s1.outside.next s2.outside.next n.1 in
       let m = meet_all n.0 a.0 b.0 e s1.outside s2.outside n.2 in
@@ -753,42 +824,58 @@ module _ (x : Context) where
   into_on None t d i f = tt
   into_on (Some g) t d i f = flows_on g t d i f
 
-  while_sound : (head : Stmts) (on : ℕ) (body : Stmts) (g : FlowState) (e : Exits) → Outside g → SoundHere head → SoundHere body
-      → flow_one x (While head on body) g ≡ Some e → Sound g (While head on body) e
-  while_sound head on body g e o sh sb q =
+  -- a loop that begins in a state to which the one before it leads
+  loop_sound : (head : Stmts) (on : ℕ) (body : Stmts) (g h : FlowState) (e : Exits) → FlowsInto x g h → Outside h → SoundHere head → SoundHere body
+      → loop_from x (flow_all x head) (flow_all x body) on h ≡ Some e → Sound g (While head on body) e
+  loop_sound head on body g0 g e enters o sh sb q =
       let r = and_then_is (flow_all x head g) (λ h. at_head x g on h (flow_all x body)) e q in
       let s1 = sh g r.0 o r.1 in
       let c = cond_is (is_none r.0.breaks && is_none r.0.again) (loops x g on r.0.next (flow_all x body)) e r.2 in
       by r.0 s1 (none_is r.0.breaks (and_l (is_none r.0.breaks) _ c.0)) (none_is r.0.again (and_r (is_none r.0.breaks) _ c.0)) r.0.next refl c.1
     where
       by : (h : Exits) → SoundAll g head h → h.breaks ≡ None → h.again ≡ None → (n : Option FlowState) → h.next ≡ n
-          → loops x g on n (flow_all x body) ≡ Some e → Sound g (While head on body) e
+          → loops x g on n (flow_all x body) ≡ Some e → Sound g0 (While head on body) e
       by h s1 nb na None is q = absurd (cc)
       by h s1 nb na (Some t) is q =
-          let c = cond_is (condition_ok x t on) (and_then (flow_all x body t) (passes x g t)) e q in
+          let c = cond_is (condition_ok x t on) (and_then (flow_all x body (where_is x t on true)) (passes x g (where_is x t on false))) e q in
           let k = condition_is t on c.0 in
           let out : Outside t = subst OutsideIn is s1.outside.next in
-          let b = and_then_is (flow_all x body t) (passes x g t) e c.1 in
-          let s2 = sb t b.0 out b.1 in
-          let p = cond_is (flows_in x b.0.next g && (flows_in x b.0.again g && flows_in x b.0.breaks t)) (Some (goes_to t)) e b.2 in
-          let w = and_r (flows_in x b.0.next g) _ p.0 in
+          let b = and_then_is (flow_all x body (where_is x t on true)) (passes x g (where_is x t on false)) e c.1 in
+          let s2 = sb (where_is x t on true) b.0 out b.1 in
+          let p = cond_is (flows_in x b.0.next g && flows_in x b.0.again g)
+          (and_then (meet x (Some (where_is x t on false)) b.0.breaks) (λ out. Some (record { next = out; breaks = None; again = None }))) e b.2 in
+          let m = and_then_is (meet x (Some (where_is x t on false)) b.0.breaks) (λ out. Some (record { next = out; breaks = None; again = None })) e p.1 in
+          let meets = meet_is (Some (where_is x t on false)) b.0.breaks m.0 out s2.outside.breaks m.1 in
           let next = flows_in_is b.0.next g s2.outside.next o (and_l (flows_in x b.0.next g) _ p.0) in
-          let again = flows_in_is b.0.again g s2.outside.again o (and_l (flows_in x b.0.again g) _ w) in
-          let breaks = flows_in_is b.0.breaks t s2.outside.breaks out (and_r (flows_in x b.0.again g) _ w) in
-          subst (Sound g (While head on body)) (some_is (goes_to t) e p.1) (record {
-            outside = goes t out;
-            onward = λ a d i f. (
+          let again = flows_in_is b.0.again g s2.outside.again o (and_r (flows_in x b.0.next g) _ p.0) in
+          subst (Sound g0 (While head on body)) (some_is (record { next = m.0; breaks = None; again = None }) e m.2) (record {
+            outside = record { next = meets.outside; breaks = tt; again = tt };
+            onward = λ a d i f. let z = meets.into d i in (
               g,
               t,
-              flows_self g,
+              enters,
               s1.onward NoLoop t (subst (λ n. Into n t) (sym is) (flows_self t)) (nb, na),
               k.0,
               k.1,
-              s2.onward (InLoop d g) g next (into_on b.0.breaks t d breaks i, again),
-              i,
+              s2.onward (InLoop d g) g next (z.1, again),
+              z.0,
               k.2,
             );
           })
+
+  while_sound : (head : Stmts) (on : ℕ) (body : Stmts) (g : FlowState) (e : Exits) → Outside g → SoundHere head → SoundHere body
+      → flow_one x (While head on body) g ≡ Some e → Sound g (While head on body) e
+  while_sound head on body g e o sh sb q =
+      by (loop_from x (flow_all x head) (flow_all x body) on g) refl (after_pass x (flow_all x head) (flow_all x body) on g) q
+    where
+      by : (first : Option Exits) → loop_from x (flow_all x head) (flow_all x body) on g ≡ first → (after : Option FlowState)
+          → or_from x first g after (loop_from x (flow_all x head) (flow_all x body) on) ≡ Some e → Sound g (While head on body) e
+      by (Some f) is after q = loop_sound head on body g g e (flows_self g) o sh sb (is ∙ q)
+      by None is None q = absurd (cc)
+      by None is (Some d) q =
+          let h : FlowState = record g { init = d.init } in
+          let c = cond_is (flows_into x g h) (loop_from x (flow_all x head) (flow_all x body) on h) e q in
+          loop_sound head on body g h e (flows_is g h o o c.0) o sh sb c.1
 
   mutual
     flow_sound : (ss : Stmts) (g : FlowState) (e : Exits) → Outside g → flow_all x ss g ≡ Some e → SoundAll g ss e
@@ -798,7 +885,7 @@ module _ (x : Context) where
     one_sound : (s : Stmt) (g : FlowState) (e : Exits) → Outside g → flow_one x s g ≡ Some e → Sound g s e
     one_sound (Built operator to from spans) g e o q = let r = built_sound operator g o to from e q in
         record { outside = r.outside; onward = λ a d i f. r.built_is d i }
-    one_sound (Set to n) g e o q = let r = stores_sound g (Some to) e o q in record { outside = r.outside; onward = λ a d i f. r.stores_is d i }
+    one_sound (Set to n) g e o q = simple g (set_to x g to n) (Set to n) (store_ok x g to) e (set_outside g to n o) q (λ h a d i. (store_is g to h, i))
     one_sound (Lend to place w) g e o q = simple g (opened x g to place (way w)) (Lend to place w) (lend_ok x g to place (way w)) e
         (opened_outside g to place (way w) o (cond_is (lend_ok x g to place (way w)) (Some (goes_to (opened x g to place (way w)))) e q).0) q
         (λ h a d i. ((lend_is g to place (way w) h).0, i))
@@ -820,14 +907,15 @@ module _ (x : Context) where
     one_sound (Call n lent owned to) g e o q = call_sound g n lent owned to e o q
     one_sound (Project n lent owned to) g e o q = project_sound g n lent owned to e o q
     one_sound (Slide l) g e o q = slide_sound g l (g.status l) e o refl q
-    one_sound (Yield l) g e o q = simple g (record g { yielded = true }) (Yield l) _ e o q
+    one_sound (Yield l) g e o q = simple g (record (with_init g l [] all_set) { yielded = true }) (Yield l) _ e o q
         (λ h a d i. let b = and_r (is_ramp x.fun) _ h in let c = and_r (not g.yielded) _ b in let k = and_r (is_open (g.status l) x.signature.yields) _ c in (
           and_l (is_ramp x.fun) _ h,
           not_is g.yielded (and_l (not g.yielded) _ b),
           open_is (g.status l) x.signature.yields (and_l (is_open (g.status l) x.signature.yields) _ c),
           shut_is g l (and_l (is_shut x g l) _ k),
-          local_so g l IsSet (and_r (is_shut x g l) _ k),
+          local_so g l IsSet (and_l (local_is x g l IsSet) _ (and_r (is_shut x g l) _ k)),
           i,
+          untied_is g l (and_r (local_is x g l IsSet) _ (and_r (is_shut x g l) _ k)),
         ))
     one_sound (If on u v) g e o q = if_sound on u v g e o (λ g e o q. flow_sound u g e o q) (λ g e o q. flow_sound v g e o q) q
     one_sound (While head on body) g e o q = while_sound head on body g e o (λ g e o q. flow_sound head g e o q) (λ g e o q. flow_sound body g e o q) q

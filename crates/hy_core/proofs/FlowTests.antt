@@ -8,9 +8,11 @@ use Rattle.hy_core.specs.Plain.{Way, Reads, Writes}
 use Rattle.hy_core.specs.Values.{Selector, PartAt, ElementAt, selector_eq, Path, Apart}
 use Rattle.hy_core.specs.Control.{Form, form, parts_of}
 use Rattle.hy_core.specs.Typing.{Among, all, type_at, IsLeaf, IsArrayAt}
-use Rattle.hy_core.specs.Flow.{InitState, IsSet, IsUnset, InitMap, Holder, InLocal, InSubscript, OpenPlace, Loan, Status, Own, Param, Opened, Bound, IsOpen}
+use Rattle.hy_core.specs.Flow.{InitState, IsSet, IsUnset, IsKnown, IsDoubtful, IsSetWith, IsSetSo, Counts, InitMap, Holder}
+use Rattle.hy_core.specs.Flow.{InLocal, InSubscript, OpenPlace, Loan, Status, Own, Param, Opened, Bound, IsOpen}
 use Rattle.hy_core.specs.Flow.{IsInLocal, Each}
-use Rattle.hy_core.specs.FlowOf.{every, member, way_eq, bool_eq, path_eq, are_apart, init_eq, holder_eq, open_place_eq, loan_eq, status_eq, is_open}
+use Rattle.hy_core.specs.FlowOf.{every, member, way_eq, bool_eq, path_eq, are_apart, is_set_so, is_unset, is_known, is_doubtful}
+use Rattle.hy_core.specs.FlowOf.{is_set_with, counts, holder_eq, open_place_eq, loan_eq, status_eq, is_open}
 use Rattle.hy_core.specs.FlowOf.{in_local, if_some, every_part, own_or_parts, every_leaf, depth_of, each_is, is_array, each_array}
 use Rattle.hy_core.proofs.Values.{selector_tells}
 
@@ -63,11 +65,54 @@ path_is [] (t ∷ q) e = absurd (cc)
 path_is (s ∷ p) [] e = absurd (cc)
 path_is (s ∷ p) (t ∷ q) e = λ i. selector_is s t (and_l (selector_eq s t) (path_eq p q) e) i ∷ path_is p q (and_r (selector_eq s t) (path_eq p q) e) i
 
-pub init_is : (s t : InitState) → init_eq s t ≡ true → s ≡ t
-init_is IsSet IsSet e = refl
-init_is IsSet IsUnset e = absurd (cc)
-init_is IsUnset IsSet e = absurd (cc)
-init_is IsUnset IsUnset e = refl
+pub set_so_is : (s : InitState) → is_set_so s ≡ true → IsSetSo s
+set_so_is IsSet e = tt
+set_so_is IsUnset e = absurd (cc)
+set_so_is (IsKnown b) e = tt
+set_so_is IsDoubtful e = absurd (cc)
+set_so_is (IsSetWith f) e = absurd (cc)
+
+pub unset_is : (s : InitState) → is_unset s ≡ true → s ≡ IsUnset
+unset_is IsSet e = absurd (cc)
+unset_is IsUnset e = refl
+unset_is (IsKnown b) e = absurd (cc)
+unset_is IsDoubtful e = absurd (cc)
+unset_is (IsSetWith f) e = absurd (cc)
+
+pub known_is : (b : Bool) (s : InitState) → is_known b s ≡ true → s ≡ IsKnown b
+known_is b IsSet e = absurd (cc)
+known_is b IsUnset e = absurd (cc)
+known_is b (IsKnown c) e = ap IsKnown (bool_is c b e)
+known_is b IsDoubtful e = absurd (cc)
+known_is b (IsSetWith f) e = absurd (cc)
+
+pub doubtful_is : (s : InitState) → is_doubtful s ≡ true → s ≡ IsDoubtful
+doubtful_is IsSet e = absurd (cc)
+doubtful_is IsUnset e = absurd (cc)
+doubtful_is (IsKnown b) e = absurd (cc)
+doubtful_is IsDoubtful e = refl
+doubtful_is (IsSetWith f) e = absurd (cc)
+
+pub set_with_is : (f : ℕ) (s : InitState) → is_set_with f s ≡ true → s ≡ IsSetWith f
+set_with_is f IsSet e = absurd (cc)
+set_with_is f IsUnset e = absurd (cc)
+set_with_is f (IsKnown b) e = absurd (cc)
+set_with_is f IsDoubtful e = absurd (cc)
+set_with_is f (IsSetWith k) e = ap IsSetWith (nat_is k f e)
+
+pub set_with_not : (f : ℕ) (s : InitState) → is_set_with f s ≡ false → s ≢ IsSetWith f
+set_with_not f IsSet e q = absurd (cc)
+set_with_not f IsUnset e q = absurd (cc)
+set_with_not f (IsKnown b) e q = absurd (cc)
+set_with_not f IsDoubtful e q = absurd (cc)
+set_with_not f (IsSetWith k) e q = nat_not k f e (let z : k ≡ f = cc in z)
+
+pub counts_is : (w s : InitState) → counts w s ≡ true → Counts w s
+counts_is IsSet s e = set_so_is s e
+counts_is IsUnset s e = unset_is s e
+counts_is (IsKnown b) s e = known_is b s e
+counts_is IsDoubtful s e = absurd (cc)
+counts_is (IsSetWith f) s e = absurd (cc)
 
 pub holder_is : (h k : Holder) → holder_eq h k ≡ true → h ≡ k
 holder_is (InLocal l) (InLocal k) e = ap InLocal (nat_is l k e)
@@ -207,7 +252,7 @@ module _ (types : Table) where
   leaf_is n t f e q l = leaf_found n t (λ a q. f q) e q l.0 l.1 l.2
 
   pub each_sound : (t : TyId) (c : InitMap) (s : InitState) → each_is types t c s ≡ true → Each types t c s
-  each_sound t c s e q l = init_is (c q) s (leaf_is (depth_of types) t (λ q. init_eq (c q) s) e q l)
+  each_sound t c s e q l = counts_is s (c q) (leaf_is (depth_of types) t (λ q. counts s (c q)) e q l)
 
   pub array_sound : (t : TyId) (f : Path → Bool) → each_array types t f ≡ true → (q : Path) → IsArrayAt types t q → f q ≡ true
   array_sound t f e q (u, a, is, arr) =

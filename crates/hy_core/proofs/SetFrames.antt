@@ -1,34 +1,40 @@
--- What is known to be set in each activation of a run of a checked core is set in the memory that copies.
-use Rattle.std.proofs.Common.{◌≡◌, ◌≢◌, ℕ, ◌<◌, ◌≤◌, Bool, false, List, [], ◌∷◌, length, Option, Some, None, slice_get, refl, sym, ap, ◌∙◌, subst, arith}
+-- What is known to be set in each activation of a run of a core that has a flow is set in the memory that copies.
+use Rattle.std.proofs.Common.{◌≡◌, ◌≢◌, ℕ, ◌<◌, ◌≤◌, Bool, false, List, [], ◌∷◌, ◌++◌, length, Option, Some, None, slice_get, refl, sym, ap, ◌∙◌, subst, arith}
 use Rattle.hy_types.specs.declared.kinds.TyId.{TyId}
 use Rattle.hy_core.specs.Plain.{Place, Stmts, Fun, is_ramp, lent_types}
 use Rattle.hy_core.specs.Values.{Path}
-use Rattle.hy_core.specs.Memory.{Key, Way, Copies}
-use Rattle.hy_core.specs.Control.{Flags, form, local_type, Work, Idle, Rest, Loop, Test, Drops, Dest, Opens, Nowhere, Activation, Nap, Halt, Control}
+use Rattle.hy_core.specs.Memory.{Key, Spot, Way, Copies}
+use Rattle.hy_core.specs.Control.{Flags, form, local_type, Task, Do, Value, PartsOf, Unsets, Work, Idle, Rest}
+use Rattle.hy_core.specs.Control.{Loop, Test, Drops, Dest, Opens, Nowhere, Activation, Nap, Halt, Control}
 use Rattle.hy_core.specs.Control.{GivesUp, Setting, with_work, sleeper_of, wake}
 use Rattle.hy_core.specs.Control as control
 use Rattle.hy_core.specs.Statements.{broken, continued}
-use Rattle.hy_core.specs.Typing.{IsLeaf}
+use Rattle.hy_core.specs.Typing.{IsLeaf, type_at}
 use Rattle.hy_core.specs.Shaped.{IsOf}
-use Rattle.hy_core.specs.Flow.{all_set, Own, Param, Bound, FlowState, Signature, Context, with_status, StoreOk, stored, FlowsInto}
+use Rattle.hy_core.specs.Flow.{Becomes, IsDoubtful, IsUntied, all_set, none_set, with_init, Own, Param, Bound}
+use Rattle.hy_core.specs.Flow.{FlowState, Signature, Context, with_status, StoreOk, stored, FlowsInto}
 use Rattle.hy_core.proofs.OpenPlaces.{Sound}
 use Rattle.hy_core.proofs.CalmWalks.{Slots, at}
-use Rattle.hy_core.proofs.CalmFrames.{Sleeping, NotIn, LoopFlows, RestFlows, context}
+use Rattle.hy_core.proofs.CalmFrames.{Sleeping, NotIn, LoopFlows, RestFlows, DeedOn, context}
 use Rattle.hy_core.proofs.SetMemories.{InitMaps, Holds}
-use Rattle.hy_core.proofs.SetWalks.{Tie, AllBound}
+use Rattle.hy_core.proofs.FlowStates.{becomes_self, becomes_on, Tells, tells_same}
+use Rattle.hy_core.proofs.SetWalks.{wholes, Tie, AllBound}
 
--- FLOW STATES that tell the same of each local
+-- FLOW STATES that tell less of each local
 
 module _ (x : Context) where
   pub record SameInit (g d : FlowState) : Type 0 where
     pub status : (l : ℕ) → g.status l ≡ d.status l
-    pub init : (l : ℕ) (t : TyId) (q : Path) → local_type x.fun l ≡ Some t → IsLeaf x.core.types t q → g.init l q ≡ d.init l q
+    pub init : (l : ℕ) (t : TyId) (q : Path) → local_type x.fun l ≡ Some t → IsLeaf x.core.types t q → Becomes x g (g.init l q) (d.init l q)
 
   pub less_self : (g : FlowState) → SameInit g g
-  less_self g = record { status = λ l. refl; init = λ l t q e i. refl }
+  less_self g = record { status = λ l. refl; init = λ l t q e i. becomes_self x g (g.init l q) }
 
   pub less_on : (g h d : FlowState) → SameInit g h → SameInit h d → SameInit g d
-  less_on g h d a b = record { status = λ l. a.status l ∙ b.status l; init = λ l t q e i. a.init l t q e i ∙ b.init l t q e i }
+  less_on g h d a b = record {
+    status = λ l. a.status l ∙ b.status l;
+    init = λ l t q e i. becomes_on x g h a.init (g.init l q) (h.init l q) (d.init l q) (a.init l t q e i) (b.init l t q e i);
+  }
 
   pub flows_less : (g d : FlowState) → FlowsInto x g d → SameInit g d
   flows_less g d a = record { status = a.status; init = λ l t q e i. a.init l t q e i }
@@ -45,13 +51,29 @@ module _ (x : Context) where
     pub loop : LoopFlows x first head on body N
     pub flows : SameInit g loop.test
 
+module _ (x : Context) (id : ℕ) where
+  -- A place of the activation of which the flow state says nothing, while what stands there is deinitialised.
+  pub record SpotSet (g : FlowState) (s : Spot) : Type 0 where
+    pub own : s.key.act ≡ id
+    pub untied : IsUntied x g s.key.local
+    pub doubtful : (r : Path) → g.init s.key.local (s.path ++ r) ≡ IsDoubtful
+
+  -- What a `Drop` has begun stands in such places, and at its end what it was to leave unset is.
+  abbrev pub TasksSet : List Task → FlowState → (FlowState → Type 0) → Type 0
+  TasksSet [] g N = (d : FlowState) × SameInit x g d × N d
+  TasksSet (Do d ∷ ts) g N = DeedOn (SpotSet g) d × TasksSet ts g N
+  TasksSet (Value s ∷ ts) g N = SpotSet g s × TasksSet ts g N
+  TasksSet (PartsOf s ∷ ts) g N = SpotSet g s × TasksSet ts g N
+  TasksSet (Unsets s ∷ ts) g N = SpotSet g s × ((u : TyId) × (type_at x.core.types (local_type x.fun s.key.local) s.path ≡ Some u))
+      × TasksSet ts (with_init g s.key.local s.path none_set) N
+
   abbrev mutual
     pub WorkSet : Work → FlowState → Type 0
     WorkSet Idle g = Unit {0}
     WorkSet (Rest ss w) g = RestFlows x g ss (BreakSet w) (AgainSet w) (WorkSet w)
-    WorkSet (Loop head on body w) g = HeadSet g head on body (WorkSet w)
-    WorkSet (Test head on body w) g = TestSet g head on body (WorkSet w)
-    WorkSet (Drops ts w) g = ⊥
+    WorkSet (Loop head on body w) g = HeadSet x g head on body (WorkSet w)
+    WorkSet (Test head on body w) g = TestSet x g head on body (WorkSet w)
+    WorkSet (Drops ts w) g = TasksSet ts g (WorkSet w)
 
     pub BreakSet : Work → FlowState → Type 0
     BreakSet Idle g = Unit {0}
@@ -78,7 +100,7 @@ module _ (x : Context) where
   again_set Idle v g e h = absurd (cc)
   again_set (Rest ss w) v g e h = again_set w v g e h
   again_set (Loop head on body w) v g e h = let z : Loop head on body w ≡ v = cc in
-      subst (λ w. WorkSet w g) z (record { first = g; flows = less_self g; loop = h })
+      subst (λ w. WorkSet w g) z (record { first = g; flows = less_self x g; loop = h })
   again_set (Test head on body w) v g e h = absurd (cc)
   again_set (Drops ts w) v g e h = absurd (cc)
 
@@ -98,7 +120,8 @@ module _ (p : Setting) (signatures : ℕ → Signature) where
     pub below : id < n
     pub locals : (l : ℕ) → W.ty (at id l) ≡ local_type fun l
     pub flow : FlowState
-    pub agrees : (l : ℕ) (t : TyId) (q : Path) → local_type fun l ≡ Some t → IsLeaf p.core.types t q → flow.init l q ≡ W.maps (at id l) q
+    pub agrees : (l : ℕ) (t : TyId) (q : Path) → local_type fun l ≡ Some t → IsLeaf p.core.types t q
+        → Tells (wholes W.maps id) (flow.init l q) (W.maps (at id l) q)
     pub ties : (l : ℕ) → Tie p.core.types fun id l (flow.status l) (W.slots (at id l))
     pub params : (j : ℕ) → j < length (lent_types fun) → (v : Way) × (flow.status j ≡ Param v)
     pub bound : AllBound flow.status (λ l. W.promised (at id l))
@@ -106,26 +129,27 @@ module _ (p : Setting) (signatures : ℕ → Signature) where
     pub goes : Goes number flow
 
   -- what is known of a waiting body once it goes on
-  pub record Writes_back (x : Context) (g : FlowState) (w : Work) (place : Place) : Type 0 where
+  pub record Writes_back (x : Context) (id : ℕ) (g : FlowState) (w : Work) (place : Place) : Type 0 where
     pub store : StoreOk x g place
     pub next : FlowState
     pub flows : FlowsInto x (stored x g place) next
-    pub work : WorkSet x w next
+    pub work : WorkSet x id w next
 
-  pub record Bind_back (x : Context) (g : FlowState) (w : Work) (v : Way) (l : ℕ) : Type 0 where
+  pub record Bind_back (x : Context) (id : ℕ) (g : FlowState) (w : Work) (v : Way) (l : ℕ) : Type 0 where
     pub own : g.status l ≡ Own
+    pub untied : IsUntied x g l
     pub next : FlowState
     pub flows : FlowsInto x (with_status g l (Bound v) all_set) next
-    pub work : WorkSet x w next
+    pub work : WorkSet x id w next
 
   -- a body waits for one that gives a value of that type, or yields such a local in that way
   abbrev pub WaitsFor : (a : Activation) → (ramp : Bool) → (result : TyId) → Way → Dest → ℕ → FlowState → Type 0
-  WaitsFor a ramp t v (control.Result place) k g = (ramp ≡ false) × IsOf p.core a.fun t place × Writes_back (context p signatures k a.fun) g a.work place
-  WaitsFor a ramp t v (Opens l) k g = (local_type a.fun l ≡ Some t) × Bind_back (context p signatures k a.fun) g a.work v l
-  WaitsFor a ramp t v Nowhere k g = WorkSet (context p signatures k a.fun) a.work g
+  WaitsFor a ramp t v (control.Result place) k g = (ramp ≡ false) × IsOf p.core a.fun t place × Writes_back (context p signatures k a.fun) a.id g a.work place
+  WaitsFor a ramp t v (Opens l) k g = (local_type a.fun l ≡ Some t) × Bind_back (context p signatures k a.fun) a.id g a.work v l
+  WaitsFor a ramp t v Nowhere k g = WorkSet (context p signatures k a.fun) a.id a.work g
 
   abbrev pub Runs_on : Activation → ℕ → FlowState → Type 0
-  Runs_on a k g = WorkSet (context p signatures k a.fun) a.work g
+  Runs_on a k g = WorkSet (context p signatures k a.fun) a.id a.work g
 
   abbrev pub CallersSet : ℕ → World → (ramp : Bool) → (result : TyId) → Way → Dest → List Activation → Type 0
   CallersSet n W ramp t v dest [] = Unit {0}
@@ -164,7 +188,9 @@ module _ (p : Setting) (signatures : ℕ → Signature) where
       below = let a = f.below in let b = ch.more in omega arith;
       locals = λ l. ch.ty (at id l) f.below ni nj ∙ f.locals l;
       flow = f.flow;
-      agrees = λ l t q e leaf. f.agrees l t q e leaf ∙ ap (λ c. c q) (sym (ch.maps (at id l) f.below ni nj));
+      agrees = λ l t q e leaf. tells_same (wholes W.maps id) (wholes W'.maps id) (f.flow.init l q) (W'.maps (at id l) q)
+          (λ k. ap (λ c. c []) (ch.maps (at id k) f.below ni nj))
+          (subst (Tells (wholes W.maps id) (f.flow.init l q)) (ap (λ c. c q) (sym (ch.maps (at id l) f.below ni nj))) (f.agrees l t q e leaf));
       ties = λ l. subst (Tie p.core.types fun id l (f.flow.status l)) (sym (ch.slots (at id l) f.below ni nj)) (f.ties l);
       params = f.params;
       bound = λ l w e q. ap (λ c. c q) (ch.promised (at id l) f.below ni nj) ∙ f.bound l w e q;

@@ -15,7 +15,7 @@ use Rattle.hy_core.specs.Operators.{at_end, popped, blanks}
 use Rattle.hy_core.specs.Statements.{swapped}
 use Rattle.hy_core.specs.Control.{Form, Numbers, Flags, Arrays, product_form, form_of, form, parts_of, part_type}
 use Rattle.hy_core.specs.Typing.{Among, selected_type, type_at, IsLeaf, IsArrayAt, IsIn, IsSmall}
-use Rattle.hy_core.specs.Flow.{InitState, IsUnset, IsSet, InitMap, map_at, with_map, all_set, none_set}
+use Rattle.hy_core.specs.Flow.{InitState, IsUnset, IsSet, IsKnown, IsDoubtful, IsSetWith, IsSetSo, Counts, InitMap, map_at, with_map, all_set, none_set}
 use Rattle.hy_core.proofs.Values.{selector_tells, selector_dec, get_get, get_put_below, get_put_apart, there_back}
 use Rattle.hy_core.proofs.OpenPlaces.{get_put}
 use Rattle.hy_core.proofs.Values.{get_unset}
@@ -141,27 +141,62 @@ with_map_apart (i ∷ p) d c (j ∷ q) a = ⊎_elim
     inner (inl n) e = absurd (n (sym e))
     inner (inr a) e = a
 
+pub with_map_above : (q : Path) (i : Selector) (r : Path) (d c : InitMap) → with_map (q ++ i ∷ r) d c q ≡ c q
+with_map_above [] i r d c = refl
+with_map_above (j ∷ q) i r d c = ⊎_elim
+    (λ e. ap (λ b. cond b (with_map (q ++ i ∷ r) d (λ r. c (j ∷ r)) q) (c (j ∷ q))) e.0 ∙ with_map_above q i r d (λ r. c (j ∷ r)))
+    (λ n. absurd (n.1 refl)) (selector_tells j j)
+
 -- WHAT A STANDING CALLS A VALUE
 
 abbrev pub Meets : InitState → Val → Type 0
 Meets IsSet v = is_whole v ≡ true
 Meets IsUnset v = v ≡ Unset
+Meets (IsKnown b) v = v ≡ Truth b
+Meets IsDoubtful v = ⊥
+Meets (IsSetWith f) v = ⊥
+
+pub meets_set : (s : InitState) (v : Val) → IsSetSo s → Meets s v → is_whole v ≡ true
+meets_set IsSet v h m = m
+meets_set IsUnset v h m = absurd h
+meets_set (IsKnown b) v h m = ap is_whole m
+meets_set IsDoubtful v h m = absurd h
+meets_set (IsSetWith f) v h m = absurd h
+
+pub meets_counts : (w s : InitState) (v : Val) → Counts w s → Meets s v → Meets w v
+meets_counts IsSet s v h m = meets_set s v h m
+meets_counts IsUnset s v h m = subst (λ s. Meets s v) h m
+meets_counts (IsKnown b) s v h m = subst (λ s. Meets s v) h m
+meets_counts IsDoubtful s v h m = absurd h
+meets_counts (IsSetWith f) s v h m = absurd h
 
 meets_put : (s : InitState) (i : Selector) (p : Path) (w v : Val) → IsThere (i ∷ p) v → is_whole w ≡ true → Meets s v → Meets s (put (i ∷ p) w v)
 meets_put IsSet i p w v there whole h = whole_put (i ∷ p) w v there h whole
 meets_put IsUnset i p w v there whole h = absurd (let z : Has i (shape Unset) = subst (λ v. Has i (shape v)) h there.0 in z)
+meets_put (IsKnown b) i p w v there whole h = absurd (let z : Has i (shape (Truth b)) = subst (λ v. Has i (shape v)) h there.0 in z)
+meets_put IsDoubtful i p w v there whole h = absurd h
+meets_put (IsSetWith f) i p w v there whole h = absurd h
 
-meets_over : (s : InitState) (v w : Val) → is_whole v ≡ true → is_whole w ≡ true → Meets s v → Meets s w
-meets_over IsSet v w was whole h = whole
-meets_over IsUnset v w was whole h = absurd (whole_unset [] (ap is_whole (sym h) ∙ was))
+meets_over : (s : InitState) (v w : Val) → is_whole v ≡ true → is_whole w ≡ true → ((b : Bool) → v ≢ Truth b) → Meets s v → Meets s w
+meets_over IsSet v w was whole other h = whole
+meets_over IsUnset v w was whole other h = absurd (whole_unset [] (ap is_whole (sym h) ∙ was))
+meets_over (IsKnown b) v w was whole other h = absurd (other b h)
+meets_over IsDoubtful v w was whole other h = absurd h
+meets_over (IsSetWith f) v w was whole other h = absurd h
 
 meets_unset : (s : InitState) (v w : Val) → v ≡ Unset → w ≡ Unset → Meets s v → Meets s w
 meets_unset IsSet v w e f h = absurd (whole_unset [] (ap is_whole (sym e) ∙ h))
 meets_unset IsUnset v w e f h = f
+meets_unset (IsKnown b) v w e f h = absurd (let z : Unset ≡ Truth b = sym e ∙ h in cc)
+meets_unset IsDoubtful v w e f h = absurd h
+meets_unset (IsSetWith k) v w e f h = absurd h
 
 meets_there : (s : InitState) (i : Selector) (p : Path) (v : Val) → IsThere (i ∷ p) v → get (i ∷ p) v ≡ Unset → Meets s v → ⊥
 meets_there IsSet i p v there e h = whole_unset [] (ap is_whole (sym e) ∙ whole_get (i ∷ p) v there h)
 meets_there IsUnset i p v there e h = let z : Has i (shape Unset) = subst (λ v. Has i (shape v)) h there.0 in z
+meets_there (IsKnown b) i p v there e h = let z : Has i (shape (Truth b)) = subst (λ v. Has i (shape v)) h there.0 in z
+meets_there IsDoubtful i p v there e h = h
+meets_there (IsSetWith f) i p v there e h = h
 
 module _ (types : Table) where
   -- TYPES
@@ -357,12 +392,14 @@ module _ (types : Table) where
 
   -- by a whole array where a whole one was
   pub sets_over : (t u e : TyId) (c : InitMap) (v : Val) (p : Path) (w : Val) → Sets t c v → IsThere p v → type_at types (Some t) p ≡ Some u
-      → form types u ≡ Arrays e → is_whole (get p v) ≡ true → is_whole w ≡ true → Sets t c (put p w v)
-  sets_over t u e c v p w s there is f was whole =
+      → form types u ≡ Arrays e → is_whole (get p v) ≡ true → is_whole w ≡ true
+      → ((b : Bool) → get p v ≢ Truth b) → Sets t c (put p w v)
+  sets_over t u e c v p w s there is f was whole other =
       sets_put t c c v p w s there (λ q a. refl) below (λ q i r z l. absurd (leaf_above t u q i r l (ap (type_at types (Some t)) (sym z) ∙ is)))
     where
       below : (r : Path) → IsLeaf types t (p ++ r) → Meets (c (p ++ r)) (get r w)
-      below [] l = meets_over (c (p ++ [])) (get (p ++ []) v) w (ap (λ p. is_whole (get p v)) (append-nil p) ∙ was) whole (s (p ++ []) l)
+      below [] l = meets_over (c (p ++ [])) (get (p ++ []) v) w (ap (λ p. is_whole (get p v)) (append-nil p) ∙ was) whole
+          (λ b z. other b (ap (λ p. get p v) (sym (append-nil p)) ∙ z)) (s (p ++ []) l)
       below (j ∷ r) l = absurd (no_leaf t u e p j r is f l)
 
   -- where nothing was, by what has nothing set
@@ -389,11 +426,15 @@ module _ (types : Table) where
   pub sets_same : (u : TyId) (c d : InitMap) (v : Val) → ((q : Path) → IsLeaf types u q → d q ≡ c q) → Sets u c v → Sets u d v
   sets_same u c d v h s q l = subst (λ z. Meets z (get q v)) (sym (h q l)) (s q l)
 
+  -- with a map as which it counts
+  pub sets_counts : (u : TyId) (c d : InitMap) (v : Val) → ((q : Path) → IsLeaf types u q → Counts (d q) (c q)) → Sets u c v → Sets u d v
+  sets_counts u c d v h s q l = meets_counts (d q) (c q) (get q v) (h q l) (s q l)
+
   -- a value of which all is called set
   pub all_sets : (u : TyId) (c : InitMap) (v : Val) → IsSmall types u → Fits types (form types u) v → Sets u c v
-      → ((q : Path) → IsLeaf types u q → c q ≡ IsSet) → is_whole v ≡ true
+      → ((q : Path) → IsLeaf types u q → IsSetSo (c q)) → is_whole v ≡ true
   all_sets u c v small fits s h = let n = small 0 u refl in let takes : Takes types u n.0 = n.1.0 in
-      leaves_whole u n.0 takes v fits (λ q l. subst (λ z. Meets z (get q v)) (h q l) (s q l))
+      leaves_whole u n.0 takes v fits (λ q l. meets_set (c q) (get q v) (h q l) (s q l))
 
   no_parts : (ts : List TyId) → FitsAll types ts No → ts ≡ []
   no_parts [] fits = refl

@@ -1,5 +1,5 @@
 -- Interactions about places of which a flow state says that they are set: none of them reads what is unset, and each effect keeps what `Dropped` says.
-use Rattle.std.proofs.Common.{◌≡◌, ◌≢◌, ◌⊎◌, inl, inr, ⊎_elim, ℕ, zero, suc, ◌<◌, Bool, true, false, cond, nat_lt, ◌==◌, List, [], ◌∷◌, ◌++◌, length}
+use Rattle.std.proofs.Common.{◌≡◌, ◌≢◌, ⊎_elim, ℕ, zero, suc, ◌<◌, Bool, true, false, cond, nat_lt, List, [], ◌∷◌, ◌++◌, length}
 use Rattle.std.proofs.Common.{Option, Some, None, slice_get, refl, sym, ap, ◌∙◌, subst, append_assoc, append-nil}
 use Rattle.hy_base.specs.declared.numbers.IntegerType.{IntegerType}
 use Rattle.hy_base.specs.declared.numbers.IntegerType.TheVariants.{Int, Sized}
@@ -23,7 +23,7 @@ use Rattle.hy_core.specs.Memory.{Key, Spot, whole, Way, Reads, Writes, Origin, C
 use Rattle.hy_core.specs.Runs as effect
 use Rattle.hy_core.specs.Runs.{Interaction, Fetch, Inspect, Perform, Return, apply, interpret}
 use Rattle.hy_core.specs.Dropped.{Keeps}
-use Rattle.hy_core.specs.Calm.{IsKept, MayWrite, IsCalm}
+use Rattle.hy_core.specs.Calm.{IsKept, MayWrite}
 use Rattle.hy_core.specs.Operators.{negated, converted, equal, line_of, index_in, at_end, popped, blanks}
 use Rattle.hy_core.specs.Control.{Form, Numbers, Flags, Arrays, form, parts_of, part_type, element_type, blank_of, local_type, Halt, Ends, Stuck, NotSet}
 use Rattle.hy_core.specs.Control.{Control, Setting, stop, key, count_one, with_some, trapped, turn, with_number, with_flag, with_array, with_set}
@@ -35,20 +35,23 @@ use Rattle.hy_core.specs.Statements.{built}
 use Rattle.hy_core.specs.Shaped.{HasForm, IsStep, IsOf, IsOfForm, IsPlain, IsBuilt}
 use Rattle.hy_core.specs.Shaped as shaped
 use Rattle.hy_core.specs.Flow as transfer
-use Rattle.hy_core.specs.Flow.{Loan, Status, Own, Param, Opened, Bound, InitState, IsSet, IsUnset, InitMap, all_set, none_set, map_at, with_map, FlowState}
+use Rattle.hy_core.specs.Flow.{Loan, Status, Own, Param, Opened, Bound, InitState, IsSet, IsUnset, IsKnown, IsSetWith}
+use Rattle.hy_core.specs.Flow.{IsSetSo, IsUntied, InitMap, all_set, none_set, map_at, with_map, FlowState}
 use Rattle.hy_core.specs.Flow.{Signature, Context, with_init, is_exact, IndexesOk, IsSetAt, IsEntered, NoArray, ReadOk, ChangeOk, StoreOk, GiveOk, TakeOk}
-use Rattle.hy_core.specs.Flow.{given, stored_if, stored, FlowsInto, Computes, TransfersBuilt}
+use Rattle.hy_core.specs.Flow.{set_local, given, stored_as, stored_if, stored, FlowsInto, Computes, TransfersBuilt}
 use Rattle.hy_core.proofs.Keys.{set_same, set_other}
-use Rattle.hy_core.proofs.Values.{get_get, selector_tells}
+use Rattle.hy_core.proofs.Values.{get_get}
 use Rattle.hy_core.proofs.Values.{get_unset}
 use Rattle.hy_core.proofs.OpenPlaces.{Sound, sound_apply}
 use Rattle.hy_core.proofs.Typed.{form_at, sub, form_on, form_append, Fits, FitsEach, each_end, each_popped, each_swapped, typed_read}
 use Rattle.hy_core.proofs.TypedWalks.{has_blank, sub_part, is_arrays}
-use Rattle.hy_core.proofs.CalmWalks.{Slots, at, aim_for, exact_indexes, index_has}
+use Rattle.hy_core.proofs.CalmWalks.{Slots, IsQuiet, at, aim_for, exact_indexes, index_has}
 use Rattle.hy_core.proofs.CalmFrames.{context}
 use Rattle.hy_core.proofs.CalmSteps.{Like, like_with, like_count, like_id}
-use Rattle.hy_core.proofs.SetValues.{Meets, no_array, leaf_above, split, whole_get, whole_unset, whole_end, whole_popped, whole_swapped, map_below}
-use Rattle.hy_core.proofs.SetValues.{with_map_below, with_map_apart, type_append, form_type, leaf_below, Sets, sets_exact, sets_inner, sets_blank}
+use Rattle.hy_core.proofs.FlowStates.{Tells, tells_set, tells_unset, tells_other}
+use Rattle.hy_core.proofs.SetValues.{Meets, meets_set, no_array, leaf_above, split, whole_get, whole_unset, whole_end, whole_popped, whole_swapped, map_below}
+use Rattle.hy_core.proofs.SetValues.{with_map_above, with_map_below, with_map_apart, type_append, form_type}
+use Rattle.hy_core.proofs.SetValues.{leaf_below, Sets, sets_exact, sets_inner, sets_blank}
 use Rattle.hy_core.proofs.SetValues.{sets_whole, sets_none, sets_over, sets_part, all_sets, small_part}
 use Rattle.hy_core.proofs.SetMemories.{InitMaps, kept_here, Holds, holds_store}
 
@@ -57,39 +60,39 @@ pub data Fine (S : Control → Copies → Type 0) (c : Control) (m : Copies) : T
   over : (h : Halt) → c.halt ≡ Some h → h ≢ NotSet → Fine S c m
   stands : S c m → Fine S c m
 
-abbrev pub Good : (Control → Copies → Type 0) → Interaction Control → Copies → Type 0
-Good S (Fetch s go) m = Good S (go (copying.read m s)) m
-Good S (Inspect s go) m = Good S (go (shape (copying.read m s))) m
-Good S (Perform o t) m = Keeps o m × Good S t (apply copying o m)
-Good S (Return c) m = Fine S c m
+abbrev pub Good : Setting → (Control → Copies → Type 0) → Interaction Control → Copies → Type 0
+Good p S (Fetch s go) m = Good p S (go (copying.read m s)) m
+Good p S (Inspect s go) m = Good p S (go (shape (copying.read m s))) m
+Good p S (Perform o t) m = Keeps p.stage o m × Good p S t (apply copying o m)
+Good p S (Return c) m = Fine S c m
 
-pub good_next : (S : Control → Copies → Type 0) (t : Interaction Control) (m : Copies) → Good S t m
+pub good_next : (p : Setting) (S : Control → Copies → Type 0) (t : Interaction Control) (m : Copies) → Good p S t m
     → Fine S (interpret copying t m).control (interpret copying t m).memory
-good_next S (Fetch s go) m h = good_next S (go (copying.read m s)) m h
-good_next S (Inspect s go) m h = good_next S (go (shape (copying.read m s))) m h
-good_next S (Perform o t) m h = good_next S t (apply copying o m) h.1
-good_next S (Return c) m h = h
+good_next p S (Fetch s go) m h = good_next p S (go (copying.read m s)) m h
+good_next p S (Inspect s go) m h = good_next p S (go (shape (copying.read m s))) m h
+good_next p S (Perform o t) m h = good_next p S t (apply copying o m) h.1
+good_next p S (Return c) m h = h
 
--- a calm interaction is so
-abbrev pub Sure : (Control → Copies → Type 0) → Interaction Control → Copies → Type 0
-Sure S t m = IsCalm t m → Good S t m
+-- a quiet interaction is so
+abbrev pub Sure : Setting → (Control → Copies → Type 0) → Interaction Control → Copies → Type 0
+Sure p S t m = IsQuiet t m → Good p S t m
 
 module _ (p : Setting) (S : Control → Copies → Type 0) where
-  pub good_some : {A : Type 0} (c : Control) (o : Option A) (go : A → Interaction Control) (m : Copies) → ((a : A) → o ≡ Some a → Sure S (go a) m)
-      → Sure S (with_some c o go) m
+  pub good_some : {A : Type 0} (c : Control) (o : Option A) (go : A → Interaction Control) (m : Copies) → ((a : A) → o ≡ Some a → Sure p S (go a) m)
+      → Sure p S (with_some c o go) m
   good_some c None go m h calm = over Stuck refl (λ e. absurd (cc))
   good_some c (Some a) go m h calm = h a refl calm
 
-  pub good_trap : (c : Control) (kind : TrapKind) (s : ℕ) (m : Copies) → Sure S (trapped p c kind s) m
+  pub good_trap : (c : Control) (kind : TrapKind) (s : ℕ) (m : Copies) → Sure p S (trapped p c kind s) m
   good_trap c kind s m = good_some c (slice_get p.core.spans s) _ m (λ x e calm. over (Ends (end.Trap kind x)) refl (λ e. absurd (cc)))
 
-  pub good_turn : (c : Control) (k : ℕ) (go : Control → Interaction Control) (m : Copies) → ((j : ℕ) → Sure S (go (record c { turns = j })) m)
-      → Sure S (turn c k go) m
+  pub good_turn : (c : Control) (k : ℕ) (go : Control → Interaction Control) (m : Copies) → ((j : ℕ) → Sure p S (go (record c { turns = j })) m)
+      → Sure p S (turn c k go) m
   good_turn c zero go m h calm = over (Ends end.Spent) refl (λ e. absurd (cc))
   good_turn c (suc k) go m h calm = h k calm
 
-  pub good_number : (c : Control) (v : Val) (go : ℤ → Interaction Control) (m : Copies) → is_whole v ≡ true → ((i : ℤ) → Sure S (go i) m)
-      → Sure S (with_number c v go) m
+  pub good_number : (c : Control) (v : Val) (go : ℤ → Interaction Control) (m : Copies) → is_whole v ≡ true → ((i : ℤ) → Sure p S (go i) m)
+      → Sure p S (with_number c v go) m
   good_number c Unset go m w h calm = absurd (cc)
   good_number c (Number Int n) go m w h calm = h n calm
   good_number c (Number (Sized num) n) go m w h calm = over Stuck refl (λ e. absurd (cc))
@@ -98,8 +101,8 @@ module _ (p : Setting) (S : Control → Copies → Type 0) where
   good_number c (Product d vs) go m w h calm = over Stuck refl (λ e. absurd (cc))
   good_number c (Array vs) go m w h calm = over Stuck refl (λ e. absurd (cc))
 
-  pub good_flag : (c : Control) (v : Val) (go : Bool → Interaction Control) (m : Copies) → is_whole v ≡ true → ((i : Bool) → Sure S (go i) m)
-      → Sure S (with_flag c v go) m
+  pub good_flag : (c : Control) (v : Val) (go : Bool → Interaction Control) (m : Copies) → is_whole v ≡ true → ((i : Bool) → Sure p S (go i) m)
+      → Sure p S (with_flag c v go) m
   good_flag c Unset go m w h calm = absurd (cc)
   good_flag c (Number t n) go m w h calm = over Stuck refl (λ e. absurd (cc))
   good_flag c (Truth b) go m w h calm = h b calm
@@ -107,8 +110,18 @@ module _ (p : Setting) (S : Control → Copies → Type 0) where
   good_flag c (Product d vs) go m w h calm = over Stuck refl (λ e. absurd (cc))
   good_flag c (Array vs) go m w h calm = over Stuck refl (λ e. absurd (cc))
 
+  -- with what the truth value is
+  pub good_truth : (c : Control) (v : Val) (go : Bool → Interaction Control) (m : Copies) → is_whole v ≡ true → ((i : Bool) → v ≡ Truth i → Sure p S (go i) m)
+      → Sure p S (with_flag c v go) m
+  good_truth c Unset go m w h calm = absurd (cc)
+  good_truth c (Number t n) go m w h calm = over Stuck refl (λ e. absurd (cc))
+  good_truth c (Truth b) go m w h calm = h b refl calm
+  good_truth c (Tuple vs) go m w h calm = over Stuck refl (λ e. absurd (cc))
+  good_truth c (Product d vs) go m w h calm = over Stuck refl (λ e. absurd (cc))
+  good_truth c (Array vs) go m w h calm = over Stuck refl (λ e. absurd (cc))
+
   pub good_array : (c : Control) (v : Val) (go : Vals → Interaction Control) (m : Copies) → is_whole v ≡ true
-      → ((vs : Vals) → v ≡ Array vs → Sure S (go vs) m) → Sure S (with_array c v go) m
+      → ((vs : Vals) → v ≡ Array vs → Sure p S (go vs) m) → Sure p S (with_array c v go) m
   good_array c Unset go m w h calm = absurd (cc)
   good_array c (Number t n) go m w h calm = over Stuck refl (λ e. absurd (cc))
   good_array c (Truth b) go m w h calm = over Stuck refl (λ e. absurd (cc))
@@ -116,45 +129,78 @@ module _ (p : Setting) (S : Control → Copies → Type 0) where
   good_array c (Product d vs) go m w h calm = over Stuck refl (λ e. absurd (cc))
   good_array c (Array vs) go m w h calm = h vs refl calm
 
-  pub good_if : (b : Bool) (c : Control) (h : Halt) (t : Interaction Control) (m : Copies) → h ≢ NotSet → (b ≡ true → Sure S t m)
-      → Sure S (cond b t (stop c h)) m
+  pub good_if : (b : Bool) (c : Control) (h : Halt) (t : Interaction Control) (m : Copies) → h ≢ NotSet → (b ≡ true → Sure p S t m)
+      → Sure p S (cond b t (stop c h)) m
   good_if true c h t m n f calm = f refl calm
   good_if false c h t m n f calm = over h refl n
 
-  pub good_set : (c : Control) (v : Val) (t : Interaction Control) (m : Copies) → is_whole v ≡ true → Sure S t m → Sure S (with_set c v t) m
-  good_set c v t m w h = subst (λ b. Sure S (cond b t (stop c NotSet)) m) (sym w) h
+  pub good_set : (c : Control) (v : Val) (t : Interaction Control) (m : Copies) → is_whole v ≡ true → Sure p S t m → Sure p S (with_set c v t) m
+  good_set c v t m w h = subst (λ b. Sure p S (cond b t (stop c NotSet)) m) (sym w) h
 
-  pub good_index : (c : Control) (s : ℕ) (o : Option ℕ) (go : ℕ → Interaction Control) (m : Copies) → ((i : ℕ) → o ≡ Some i → Sure S (go i) m)
-      → Sure S (with_index p c s o go) m
+  pub good_index : (c : Control) (s : ℕ) (o : Option ℕ) (go : ℕ → Interaction Control) (m : Copies) → ((i : ℕ) → o ≡ Some i → Sure p S (go i) m)
+      → Sure p S (with_index p c s o go) m
   good_index c s None go m h = good_trap c trap.Index s m
   good_index c s (Some i) go m h = h i refl
 
   pub any_one : {A : Type 0} (c : Control) (xs : List A) (go : A → Interaction Control) (m : Copies)
-      → ((a : A) → Sure S (go a) m) → Sure S (with_one c xs go) m
+      → ((a : A) → Sure p S (go a) m) → Sure p S (with_one c xs go) m
   any_one c [] go m h calm = over Stuck refl (λ e. absurd (cc))
   any_one c (a ∷ []) go m h calm = h a calm
   any_one c (a ∷ (b ∷ more)) go m h calm = over Stuck refl (λ e. absurd (cc))
 
-  pub any_two : {A : Type 0} (c : Control) (xs : List A) (go : A → A → Interaction Control) (m : Copies) → ((a b : A) → Sure S (go a b) m)
-      → Sure S (with_two c xs go) m
+  pub any_two : {A : Type 0} (c : Control) (xs : List A) (go : A → A → Interaction Control) (m : Copies) → ((a b : A) → Sure p S (go a b) m)
+      → Sure p S (with_two c xs go) m
   any_two c [] go m h calm = over Stuck refl (λ e. absurd (cc))
   any_two c (a ∷ more) go m h calm = any_one c more (go a) m (h a) calm
 
 -- MAPS that tell the same
 
-with_map_above : (q : Path) (i : Selector) (r : Path) (d c : InitMap) → with_map (q ++ i ∷ r) d c q ≡ c q
-with_map_above [] i r d c = refl
-with_map_above (j ∷ q) i r d c = ⊎_elim
-    (λ e. ap (λ b. cond b (with_map (q ++ i ∷ r) d (λ r. c (j ∷ r)) q) (c (j ∷ q))) e.0 ∙ with_map_above q i r d (λ r. c (j ∷ r)))
-    (λ n. absurd (n.1 refl)) (selector_tells j j)
-
-pub with_same : (p : Path) (d d' c c' : InitMap) (q : Path) → ((r : Path) → q ≡ p ++ r → d r ≡ d' r) → c q ≡ c' q → with_map p d c q ≡ with_map p d' c' q
-with_same p d d' c c' q below beside = ⊎_elim
-    (λ a. with_map_apart p d c q a ∙ beside ∙ sym (with_map_apart p d' c' q a))
+pub with_rel : (R : InitState → InitState → Type 0) (p : Path) (d d' c c' : InitMap) (q : Path) → ((r : Path) → q ≡ p ++ r → R (d r) (d' r)) → R (c q) (c' q)
+    → R (with_map p d c q) (with_map p d' c' q)
+with_rel R p d d' c c' q below beside = ⊎_elim
+    (λ a. two (c q) _ (c' q) _ (sym (with_map_apart p d c q a)) (sym (with_map_apart p d' c' q a)) beside)
     (λ b. ⊎_elim
-    (λ x. ap (with_map p d c) x.1 ∙ with_map_below p d c x.0 ∙ below x.0 x.1 ∙ sym (ap (with_map p d' c') x.1 ∙ with_map_below p d' c' x.0))
-    (λ x. ap (λ p. with_map p d c q) x.2 ∙ with_map_above q x.0 x.1 d c ∙ beside ∙ sym (ap (λ p. with_map p d' c' q) x.2 ∙ with_map_above q x.0 x.1 d' c')) b)
+    (λ x. two (d x.0) _ (d' x.0) _ (sym (ap (with_map p d c) x.1 ∙ with_map_below p d c x.0)) (sym (ap (with_map p d' c') x.1 ∙ with_map_below p d' c' x.0))
+    (below x.0 x.1))
+    (λ x. two (c q) _ (c' q) _ (sym (ap (λ p. with_map p d c q) x.2 ∙ with_map_above q x.0 x.1 d c))
+    (sym (ap (λ p. with_map p d' c' q) x.2 ∙ with_map_above q x.0 x.1 d' c')) beside) b)
     (split p q)
+  where
+    two : (a a' b b' : InitState) → a ≡ a' → b ≡ b' → R a b → R a' b'
+    two a a' b b' e f h = subst (λ a. R a b') e (subst (R a) f h)
+
+-- the states of whole locals of an activation
+abbrev pub wholes : InitMaps → ℕ → ℕ → InitState
+wholes E id f = E (at id f) []
+
+-- where one local changes, what is not tied to it tells what it told
+pub tells_change : (E : InitMaps) (id l : ℕ) (c : InitMap) (s e : InitState) → s ≢ IsSetWith l → Tells (wholes E id) s e
+    → Tells (wholes (set_at E (at id l) c) id) s e
+tells_change E id l c s e free t = tells_other (wholes E id) (wholes (set_at E (at id l) c) id) l s e
+    (λ k n. ap (λ c. c []) (set_other E (at id l) c (at id k) (λ z. n (ap (λ k. k.local) z)))) free t
+
+pub tells_set_local : (E : InitMaps) (id l : ℕ) (init : ℕ → InitMap) (c c' : InitMap) (j : ℕ) (r : Path) → init j r ≢ IsSetWith l
+    → Tells (wholes E id) (init j r) (E (at id j) r) → (j ≡ l → Tells (wholes (set_at E (at id l) c') id) (c r) (c' r))
+    → Tells (wholes (set_at E (at id l) c') id) (set_local init l c j r) (set_at E (at id l) c' (at id j) r)
+tells_set_local E id l init c c' j r free old new = ⊎_elim
+    (λ y. subst (λ s. Tells F s (set_at E (at id l) c' (at id j) r)) (sym (ap (λ b. cond b c (init j) r) y.0))
+    (subst (λ e. Tells F (c r) e) (sym (ap (λ j. set_at E (at id l) c' (at id j) r) y.1 ∙ ap (λ c. c r) (set_same E (at id l) c'))) (new y.1)))
+    (λ y. subst (λ s. Tells F s (set_at E (at id l) c' (at id j) r)) (sym (ap (λ b. cond b c (init j) r) y.0))
+    (subst (λ e. Tells F (init j r) e) (sym (ap (λ c. c r) (set_other E (at id l) c' (at id j) (λ z. y.1 (ap (λ k. k.local) z)))))
+    (tells_change E id l c' (init j r) (E (at id j) r) free old))) (eqb_tells j l)
+  where
+    F : ℕ → InitState
+    F = wholes (set_at E (at id l) c') id
+
+-- states that tell of themselves
+abbrev pub Plain : InitMap → Type 0
+Plain d = (F : ℕ → InitState) (q : Path) → Tells F (d q) (d q)
+
+pub plain_set : Plain all_set
+plain_set F q = tt
+
+pub plain_none : Plain none_set
+plain_none F q = refl
 
 -- PATHS of steps
 
@@ -240,7 +286,8 @@ module _ (p : Setting) (S : Control → Copies → Type 0) (signatures : ℕ →
   mine l = at k₀.now.id l
 
   abbrev pub Agrees : FlowState → InitMaps → Type 0
-  Agrees g E = (l : ℕ) (t : TyId) (q : Path) → local_type k₀.now.fun l ≡ Some t → IsLeaf p.core.types t q → g.init l q ≡ E (at k₀.now.id l) q
+  Agrees g E = (l : ℕ) (t : TyId) (q : Path) → local_type k₀.now.fun l ≡ Some t → IsLeaf p.core.types t q
+      → Tells (wholes E k₀.now.id) (g.init l q) (E (at k₀.now.id l) q)
 
   -- what a flow state says is so in the memory
   pub record Now (g : FlowState) (m : Copies) : Type 0 where
@@ -259,9 +306,10 @@ module _ (p : Setting) (S : Control → Copies → Type 0) (signatures : ℕ →
     local_sets l t e kept = h.holds.set (mine l) (kept_here m (mine l) kept) t (local l ∙ e)
 
     -- a number or truth value that is known to be set
-    pub local_whole : (l : ℕ) (t : TyId) → local_type k₀.now.fun l ≡ Some t → parts_of (form p.core.types t) ≡ [] → g.init l [] ≡ IsSet → IsKept m (mine l)
+    pub local_whole : (l : ℕ) (t : TyId) → local_type k₀.now.fun l ≡ Some t → parts_of (form p.core.types t) ≡ [] → IsSetSo (g.init l []) → IsKept m (mine l)
         → is_whole (m.value (mine l)) ≡ true
-    local_whole l t e f s kept = subst (λ z. Meets z (m.value (mine l))) (sym (h.agrees l t [] e (t, refl, f)) ∙ s) (local_sets l t e kept [] (t, refl, f))
+    local_whole l t e f s kept = meets_set (h.maps (mine l) []) (m.value (mine l))
+        (tells_set (wholes h.maps k₀.now.id) (g.init l []) (h.maps (mine l) []) s (h.agrees l t [] e (t, refl, f))) (local_sets l t e kept [] (t, refl, f))
 
     pub typed_at : (l : ℕ) (q : Path) (a : TyId) → type_at p.core.types (local_type k₀.now.fun l) q ≡ Some a
         → form_on p.core.types (form_at p.core.types (ty (mine l))) q ≡ form p.core.types a
@@ -284,25 +332,26 @@ module _ (p : Setting) (S : Control → Copies → Type 0) (signatures : ℕ →
         all_sets p.core.types a.0 (map_at (still place.steps) (h.maps (mine place.local))) _
         (small_part p.core.types t a.0 (still place.steps) a.1 (small place.local t e)) (fits_at place.local (still place.steps) a.0 b)
         (sets_part p.core.types t a.0 _ _ (still place.steps) (local_sets place.local t e kept) a.1)
-        (λ q l. map_below (still place.steps) (h.maps (mine place.local)) q
-        ∙ sym (h.agrees place.local t (still place.steps ++ q) e (leaf_below p.core.types t a.0 (still place.steps) q a.1 l))
-        ∙ sym (map_below (still place.steps) (g.init place.local) q) ∙ set a.0 b q l)
+        (λ q l. subst IsSetSo (sym (map_below (still place.steps) (h.maps (mine place.local)) q))
+        (tells_set (wholes h.maps k₀.now.id) (g.init place.local (still place.steps ++ q)) (h.maps (mine place.local) (still place.steps ++ q))
+        (subst IsSetSo (map_below (still place.steps) (g.init place.local) q) (set a.0 b q l))
+        (h.agrees place.local t (still place.steps ++ q) e (leaf_below p.core.types t a.0 (still place.steps) q a.1 l))))
 
   -- WALKS to what is set: nothing changes on the way
 
   module _ (g : FlowState) (m : Copies) (h : Now g m) (w : Way) (k : Key) (u : TyId) (go : Control → Spot → TyId → Interaction Control) where
-    set_index : (c : Control) (l : ℕ) → Like k₀ c → HasForm p.core k₀.now.fun l (Numbers Int) → g.init l [] ≡ IsSet → IsKept m (key c l)
+    set_index : (c : Control) (l : ℕ) → Like k₀ c → HasForm p.core k₀.now.fun l (Numbers Int) → IsSetSo (g.init l []) → IsKept m (key c l)
         → is_whole (m.value (key c l)) ≡ true
     set_index c l like has set kept =
         subst (λ i. is_whole (m.value (at i l)) ≡ true) (sym (like_id k₀ c like))
         (local_whole g m h l has.0 has.1 (ap parts_of has.2) set (subst (λ i. IsKept m (at i l)) (like_id k₀ c like) kept))
 
     array_step : (c : Control) (span : ℕ) (i : ℤ) (v : Val) (on : ℕ → Interaction Control) → is_whole v ≡ true
-        → ((j : ℕ) → Has (ElementAt j) (shape v) → Sure S (on j) m) → Sure S (at_element p (aim_for w) c span i (shape v) on) m
+        → ((j : ℕ) → Has (ElementAt j) (shape v) → Sure p S (on j) m) → Sure p S (at_element p (aim_for w) c span i (shape v) on) m
     array_step c span i v on e next = by w v e next
       where
-        by : (w : Way) (v : Val) → is_whole v ≡ true → ((j : ℕ) → Has (ElementAt j) (shape v) → Sure S (on j) m)
-            → Sure S (at_element p (aim_for w) c span i (shape v) on) m
+        by : (w : Way) (v : Val) → is_whole v ≡ true → ((j : ℕ) → Has (ElementAt j) (shape v) → Sure p S (on j) m)
+            → Sure p S (at_element p (aim_for w) c span i (shape v) on) m
         by w Unset e next calm = absurd (cc)
         by w (Number t n) e next calm = over Stuck refl (λ e. absurd (cc))
         by w (Truth b) e next calm = over Stuck refl (λ e. absurd (cc))
@@ -310,8 +359,8 @@ module _ (p : Setting) (S : Control → Copies → Type 0) (signatures : ℕ →
         by w (Product d vs) e next calm = over Stuck refl (λ e. absurd (cc))
         by w (Array vs) e next calm = good_index p S c span (index_in (many vs) i) on m (λ j e. next j (index_has (many vs) i j e)) calm
 
-    part_step : (c : Control) (s : Spot) (f : Form) (i : ℕ) (v : Val) (t : Interaction Control) → v ≢ Unset → (Has (PartAt i) (shape v) → Sure S t m)
-        → Sure S (at_part (aim_for w) c s f i (shape v) t) m
+    part_step : (c : Control) (s : Spot) (f : Form) (i : ℕ) (v : Val) (t : Interaction Control) → v ≢ Unset → (Has (PartAt i) (shape v) → Sure p S t m)
+        → Sure p S (at_part (aim_for w) c s f i (shape v) t) m
     part_step c s f i Unset t n next calm = absurd (n refl)
     part_step c s f i (Number l k) t n next calm = over Stuck refl (λ e. absurd (cc))
     part_step c s f i (Truth b) t n next calm = over Stuck refl (λ e. absurd (cc))
@@ -342,10 +391,10 @@ module _ (p : Setting) (S : Control → Copies → Type 0) (signatures : ℕ →
     walk_whole : (steps : List Step) (c : Control) (q : Path) (t : TyId) → Like k₀ c → all (IsStep p.core k₀.now.fun) steps → IndexesOk g steps → Whole q
         → form_on p.core.types (form_at p.core.types (ty k)) q ≡ form p.core.types t → steps_type p.core.types (Some t) steps ≡ Some u
         → ((c : Control) (r : Path) → Like k₀ c → Extends steps q r → Whole r → form_on p.core.types (form_at p.core.types (ty k)) r ≡ form p.core.types u
-        → Sure S (go c (record { key = k; path = r }) u) m)
-        → Sure S (walk p (aim_for w) c k q t steps go) m
+        → Sure p S (go c (record { key = k; path = r }) u) m)
+        → Sure p S (walk p (aim_for w) c k q t steps go) m
     walk_whole [] c q t like ok idx wh e is next =
-        let z : t ≡ u = cc in subst (λ t. Sure S (go c (record { key = k; path = q }) t) m) (sym z) (next c q like refl wh (e ∙ ap (form p.core.types) z))
+        let z : t ≡ u = cc in subst (λ t. Sure p S (go c (record { key = k; path = q }) t) m) (sym z) (next c q like refl wh (e ∙ ap (form p.core.types) z))
     walk_whole (Part i ∷ steps) c q t like ok idx wh e is next = good_some p S c (part_type (form p.core.types t) i) _ m (λ y found calm.
         part_step c _ _ i (get q (m.value k)) _ (not_unset q [] (wh calm.0.kept)) (λ has.
         walk_whole steps c (q ++ PartAt i ∷ []) y like ok.1 idx (λ kept. ap is_whole (get_get q (PartAt i ∷ []) (m.value k))
@@ -364,10 +413,10 @@ module _ (p : Setting) (S : Control → Copies → Type 0) (signatures : ℕ →
         → Whole (q ++ still steps)
         → form_on p.core.types (form_at p.core.types (ty k)) q ≡ form p.core.types t → steps_type p.core.types (Some t) steps ≡ Some u
         → ((c : Control) (r : Path) → Like k₀ c → EndsAt (is_exact steps) (q ++ still steps) r → Whole r
-        → form_on p.core.types (form_at p.core.types (ty k)) r ≡ form p.core.types u → Sure S (go c (record { key = k; path = r }) u) m)
-        → Sure S (walk p (aim_for w) c k q t steps go) m
+        → form_on p.core.types (form_at p.core.types (ty k)) r ≡ form p.core.types u → Sure p S (go c (record { key = k; path = r }) u) m)
+        → Sure p S (walk p (aim_for w) c k q t steps go) m
     walk_still [] c q t like ok idx wh e is next = let z : t ≡ u = cc in
-        subst (λ t. Sure S (go c (record { key = k; path = q }) t) m) (sym z) (next c q like (sym (append-nil q)) (subst Whole (append-nil q) wh) (e
+        subst (λ t. Sure p S (go c (record { key = k; path = q }) t) m) (sym z) (next c q like (sym (append-nil q)) (subst Whole (append-nil q) wh) (e
         ∙ ap (form p.core.types) z))
     walk_still (Part i ∷ steps) c q t like ok idx wh e is next = good_some p S c (part_type (form p.core.types t) i) _ m (λ y found calm.
         part_step c _ _ i (get q (m.value k)) _ (not_unset q (PartAt i ∷ still steps) (ap is_whole (sym (get_get q (PartAt i ∷ still steps) (m.value k)))
@@ -389,8 +438,9 @@ module _ (p : Setting) (S : Control → Copies → Type 0) (signatures : ℕ →
   -- a value is stored at a place of the type, and the map says so
   pub covered : (g : FlowState) (m : Copies) (h : Now g m) (l : ℕ) (q : Path) (u : TyId) (d : InitMap) (v : Val)
       → type_at p.core.types (local_type k₀.now.fun l) q ≡ Some u → MayWrite m (record { key = mine l; path = q })
-      → Fits p.core.types (form p.core.types u) v → Sets p.core.types u d v → Now (with_init g l q d) (copying.store m (record { key = mine l; path = q }) v)
-  covered g m h l q u d v is may fits new = record {
+      → Fits p.core.types (form p.core.types u) v → Sets p.core.types u d v → Plain d → IsUntied x g l
+      → Now (with_init g l q d) (copying.store m (record { key = mine l; path = q }) v)
+  covered g m h l q u d v is may fits new plain untied = record {
     maps = set_at h.maps (mine l) (with_map q d (h.maps (mine l)));
     holds = holds_store p.core.types ty n h.maps _ P m (record { key = mine l; path = q }) v h.holds may below_n
         (subst (λ f. Fits p.core.types f v) (sym (typed_at g m h l q u is)) fits)
@@ -398,7 +448,11 @@ module _ (p : Setting) (S : Control → Copies → Type 0) (signatures : ℕ →
         (λ t y st. subst (λ c. Sets p.core.types t c (put q v (m.value (mine l)))) (sym (set_same h.maps (mine l) (with_map q d (h.maps (mine l)))))
         (sets_exact p.core.types t u (h.maps (mine l)) d (m.value (mine l)) q v st may.there (ap (λ o. type_at p.core.types o q) (sym (local_is l t y))
         ∙ is) new));
-    agrees = λ j t r e leaf. maps_agree j t r e leaf (eqb_tells j l);
+    agrees = λ j t r e leaf. tells_set_local h.maps k₀.now.id l g.init (with_map q d (g.init l)) (with_map q d (h.maps (mine l))) j r
+        (untied j t r e leaf) (h.agrees j t r e leaf) (λ y. with_rel (Tells (wholes (set_at h.maps (mine l) (with_map q d (h.maps (mine l)))) k₀.now.id)) q d d
+        (g.init l) (h.maps (mine l)) r (λ b _. plain _ b)
+        (let f : local_type k₀.now.fun l ≡ Some t = ap (local_type k₀.now.fun) (sym y) ∙ e in
+        tells_change h.maps k₀.now.id l _ (g.init l r) (h.maps (mine l) r) (untied l t r f leaf) (h.agrees l t r f leaf)));
     others = λ k n. set_other h.maps (mine l) (with_map q d (h.maps (mine l))) k (mine_act l k n) ∙ h.others k n;
     ties = h.ties;
     params = h.params;
@@ -406,18 +460,6 @@ module _ (p : Setting) (S : Control → Copies → Type 0) (signatures : ℕ →
     same = h.same;
     sound = sound_apply (effect.Store (record { key = mine l; path = q }) v) m may h.sound;
   }
-    where
-      maps_agree : (j : ℕ) (t : TyId) (r : Path) → local_type k₀.now.fun j ≡ Some t → IsLeaf p.core.types t r → (((j == l) ≡ true) × (j ≡ l))
-          ⊎ (((j == l) ≡ false) × (j ≢ l))
-          → cond (j == l) (with_map q d (g.init l)) (g.init j) r ≡ set_at h.maps (mine l) (with_map q d (h.maps (mine l))) (mine j) r
-      maps_agree j t r e leaf (inl y) =
-          let f : local_type k₀.now.fun l ≡ Some t = ap (local_type k₀.now.fun) (sym y.1) ∙ e in
-          ap (λ b. cond b (with_map q d (g.init l)) (g.init j) r) y.0 ∙ with_same q d d (g.init l) (h.maps (mine l)) r (λ r _. refl) (h.agrees l t r f leaf)
-          ∙ sym (ap (λ i. set_at h.maps (mine l) (with_map q d (h.maps (mine l))) (mine i) r) y.1
-          ∙ ap (λ c. c r) (set_same h.maps (mine l) (with_map q d (h.maps (mine l)))))
-      maps_agree j t r e leaf (inr y) =
-          ap (λ b. cond b (with_map q d (g.init l)) (g.init j) r) y.0 ∙ h.agrees j t r e leaf
-          ∙ sym (ap (λ c. c r) (set_other h.maps (mine l) (with_map q d (h.maps (mine l))) (mine j) (λ z. y.1 (ap (λ k. k.local) z))))
 
   -- a value is stored, and all that was set in the local still is
   pub uncovered : (g : FlowState) (m : Copies) (h : Now g m) (l : ℕ) (q : Path) (v : Val) → MayWrite m (record { key = mine l; path = q })
@@ -443,8 +485,8 @@ module _ (p : Setting) (S : Control → Copies → Type 0) (signatures : ℕ →
   module _ (g : FlowState) (l : ℕ) (u : TyId) (go : Control → Spot → TyId → Interaction Control) where
     blank_step : (c : Control) (m : Copies) (q : Path) (t y : TyId) (i : ℕ) (v : Val) (on : Interaction Control) → Now g m → get q (m.value (mine l)) ≡ v
         → type_at p.core.types (local_type k₀.now.fun l) q ≡ Some t
-        → part_type (form p.core.types t) i ≡ Some y → ((m : Copies) → Now g m → Sure S on m)
-        → Sure S (at_part ToWrite c (record { key = mine l; path = q }) (form p.core.types t) i (shape v) on) m
+        → part_type (form p.core.types t) i ≡ Some y → ((m : Copies) → Now g m → Sure p S on m)
+        → Sure p S (at_part ToWrite c (record { key = mine l; path = q }) (form p.core.types t) i (shape v) on) m
     blank_step c m q t y i Unset on h e is found next =
         let b = has_blank p.core.types (form p.core.types t) t y i refl found in
         good_some p S c (blank_of (form p.core.types t)) _ m (λ v is_b calm. (
@@ -487,18 +529,18 @@ module _ (p : Setting) (S : Control → Copies → Type 0) (signatures : ℕ →
     walk_blank : (steps : List Step) (c : Control) (m : Copies) (q : Path) (t : TyId) → is_exact steps ≡ true → Like k₀ c → Now g m
         → type_at p.core.types (local_type k₀.now.fun l) q ≡ Some t → steps_type p.core.types (Some t) steps ≡ Some u
         → ((c : Control) (m : Copies) → Like k₀ c → Now g m → type_at p.core.types (local_type k₀.now.fun l) (q ++ still steps) ≡ Some u
-        → Sure S (go c (record { key = mine l; path = q ++ still steps }) u) m)
-        → Sure S (walk p ToWrite c (mine l) q t steps go) m
+        → Sure p S (go c (record { key = mine l; path = q ++ still steps }) u) m)
+        → Sure p S (walk p ToWrite c (mine l) q t steps go) m
     walk_blank [] c m q t exact like h is e next = let z : t ≡ u = cc in
-        subst (λ r. Sure S (go c (record { key = mine l; path = r }) t) m) (append-nil q)
-        (subst (λ t. Sure S (go c (record { key = mine l; path = q ++ [] }) t) m) (sym z)
+        subst (λ r. Sure p S (go c (record { key = mine l; path = r }) t) m) (append-nil q)
+        (subst (λ t. Sure p S (go c (record { key = mine l; path = q ++ [] }) t) m) (sym z)
         (next c m like h (ap (type_at p.core.types (local_type k₀.now.fun l)) (append-nil q) ∙ is ∙ ap Some z)))
     walk_blank (Part i ∷ steps) c m q t exact like h is e next = good_some p S c (part_type (form p.core.types t) i) _ m (λ y found calm.
         blank_step c m q t y i (get q (m.value (mine l))) _ h refl is found (λ m h.
         walk_blank steps c m (q ++ PartAt i ∷ []) y exact like h (type_append p.core.types (local_type k₀.now.fun l) q (PartAt i ∷ [])
         ∙ ap (λ o. type_at p.core.types o (PartAt i ∷ [])) is ∙ one_type p.core.types (part_type (form p.core.types t) i) y found)
         (ap (λ o. steps_type p.core.types o steps) (sym found) ∙ e)
-        (λ c m like h is. subst (λ r. Sure S (go c (record { key = mine l; path = r }) u) m) (sym (append_assoc q (PartAt i ∷ []) (still steps)))
+        (λ c m like h is. subst (λ r. Sure p S (go c (record { key = mine l; path = r }) u) m) (sym (append_assoc q (PartAt i ∷ []) (still steps)))
         (next c m like h (ap (type_at p.core.types (local_type k₀.now.fun l)) (sym (append_assoc q (PartAt i ∷ []) (still steps))) ∙ is)))) calm.1)
     walk_blank (Index j s ∷ steps) c m q t exact like h is e next = absurd (cc)
 
@@ -515,8 +557,9 @@ module _ (p : Setting) (S : Control → Copies → Type 0) (signatures : ℕ →
       by (Some t) e is q arr = let leaf : IsLeaf p.core.types u q = (arr.0, arr.2, ap parts_of arr.3) in
           sym (get_get (still place.steps) q (m.value (mine place.local)))
           ∙ subst (λ z. Meets z (get (still place.steps ++ q) (m.value (mine place.local))))
-          (sym (h.agrees place.local t (still place.steps ++ q) e (leaf_below p.core.types t u (still place.steps) q is leaf))
-          ∙ sym (map_below (still place.steps) (g.init place.local) q) ∙ none_there u of.0 q arr)
+          (tells_unset (wholes h.maps k₀.now.id) (g.init place.local (still place.steps ++ q)) (h.maps (mine place.local) (still place.steps ++ q))
+          (sym (map_below (still place.steps) (g.init place.local) q) ∙ none_there u of.0 q arr)
+          (h.agrees place.local t (still place.steps ++ q) e (leaf_below p.core.types t u (still place.steps) q is leaf)))
           (local_sets g m h place.local t e kept (still place.steps ++ q) (leaf_below p.core.types t u (still place.steps) q is leaf))
 
   -- PLACES
@@ -527,12 +570,12 @@ module _ (p : Setting) (S : Control → Copies → Type 0) (signatures : ℕ →
     OnPlace place u go = (c : Control) (r : Path) → Like k₀ c → EndsAt (is_exact place.steps) (still place.steps) r
         → (IsKept m (mine place.local) → is_whole (get r (m.value (mine place.local))) ≡ true)
         → form_on p.core.types (form_at p.core.types (ty (mine place.local))) r ≡ form p.core.types u
-        → Sure S (go c (record { key = mine place.local; path = r }) u) m
+        → Sure p S (go c (record { key = mine place.local; path = r }) u) m
 
     pub spot_set : (w : Way) (place : Place) (u : TyId) (go : Control → Spot → TyId → Interaction Control) → IsOf p.core k₀.now.fun u place
         → IndexesOk g place.steps → IsSetAt x g place → OnPlace place u go
-        → (c : Control) → Like k₀ c → Sure S (spot p (aim_for w) c place go) m
-    spot_set w place u go of idx set next c like = subst (λ c. Sure S (spot p (aim_for w) c place go) m) (sym like.is)
+        → (c : Control) → Like k₀ c → Sure p S (spot p (aim_for w) c place go) m
+    spot_set w place u go of idx set next c like = subst (λ c. Sure p S (spot p (aim_for w) c place go) m) (sym like.is)
         (good_some p S (record k₀ { turns = like.turns; opened = like.opened; input = like.input; output = like.output })
         (local_type k₀.now.fun place.local) _ m (λ t found.
         let is : steps_type p.core.types (Some t) place.steps ≡ Some u = ap (λ o. steps_type p.core.types o place.steps) (sym found) ∙ of.0 in
@@ -550,9 +593,9 @@ module _ (p : Setting) (S : Control → Copies → Type 0) (signatures : ℕ →
     pub spot_blank : (place : Place) (u : TyId) (go : Control → Spot → TyId → Interaction Control) → IsOf p.core k₀.now.fun u place
         → is_exact place.steps ≡ true
         → ((c : Control) (m : Copies) → Like k₀ c → Now g m → type_at p.core.types (local_type k₀.now.fun place.local) (still place.steps) ≡ Some u
-        → Sure S (go c (record { key = mine place.local; path = still place.steps }) u) m)
-        → (c : Control) → Like k₀ c → Sure S (spot p ToWrite c place go) m
-    spot_blank place u go of exact next c like = subst (λ c. Sure S (spot p ToWrite c place go) m) (sym like.is)
+        → Sure p S (go c (record { key = mine place.local; path = still place.steps }) u) m)
+        → (c : Control) → Like k₀ c → Sure p S (spot p ToWrite c place go) m
+    spot_blank place u go of exact next c like = subst (λ c. Sure p S (spot p ToWrite c place go) m) (sym like.is)
         (good_some p S (record k₀ { turns = like.turns; opened = like.opened; input = like.input; output = like.output })
         (local_type k₀.now.fun place.local) _ m (λ t found.
         walk_blank g place.local u go place.steps _ m [] t exact (record {
@@ -576,59 +619,61 @@ module _ (p : Setting) (S : Control → Copies → Type 0) (signatures : ℕ →
     exact_type place u of e = still_exact p.core.types (local_type k₀.now.fun place.local) place.steps u e of.0
 
     pub good_read : (place : Place) (u : TyId) (go : Control → Val → Interaction Control) → IsOf p.core k₀.now.fun u place → ReadOk x g place
-        → ((c : Control) (v : Val) → Like k₀ c → Fits p.core.types (form p.core.types u) v → is_whole v ≡ true → Sure S (go c v) m) → (c : Control)
-        → Like k₀ c → Sure S (read p c place go) m
+        → ((c : Control) (v : Val) → Like k₀ c → Fits p.core.types (form p.core.types u) v → is_whole v ≡ true → Sure p S (go c v) m) → (c : Control)
+        → Like k₀ c → Sure p S (read p c place go) m
     good_read place u go of ok next = spot_set Reads place u _ of ok.indexes ok.set (λ c r like ends wh e calm.
         let v = get r (m.value (mine place.local)) in
         good_set p S c v (go c v) m (wh calm.0.kept) (next c v like (fits_there place.local r (form p.core.types u) e) (wh calm.0.kept)) calm.1)
 
     -- what stands at a place of the type is given up
     pub gave : (place : Place) (u : TyId) → IsOf p.core k₀.now.fun u place → is_exact place.steps ≡ true → (r : Path) → r ≡ still place.steps
-        → MayWrite m (record { key = mine place.local; path = r })
+        → IsUntied x g place.local → MayWrite m (record { key = mine place.local; path = r })
         → Now (given x g place) (copying.store m (record { key = mine place.local; path = r }) Unset)
-    gave place u of exact r z may = subst (λ r. MayWrite m (record { key = mine place.local; path = r })
+    gave place u of exact r z untied may = subst (λ r. MayWrite m (record { key = mine place.local; path = r })
         → Now (given x g place) (copying.store m (record { key = mine place.local; path = r }) Unset)) (sym z)
-        (λ may. covered g m h place.local (still place.steps) u none_set Unset (exact_type place u of exact) may tt (sets_none p.core.types u)) may
+        (λ may. covered g m h place.local (still place.steps) u none_set Unset (exact_type place u of exact) may tt
+        (sets_none p.core.types u) plain_none untied) may
 
     pub good_take : (place : Place) (u : TyId) (go : Control → Val → Interaction Control) → IsOf p.core k₀.now.fun u place → TakeOk x g place
         → ((c : Control) (v : Val) (m : Copies) → Like k₀ c → Fits p.core.types (form p.core.types u) v → is_whole v ≡ true → Now (given x g place) m
-        → Sure S (go c v) m) → (c : Control) → Like k₀ c → Sure S (take p c place go) m
+        → Sure p S (go c v) m) → (c : Control) → Like k₀ c → Sure p S (take p c place go) m
     good_take place u go of ok next = spot_set Reads place u _ of (exact_indexes g place.steps ok.give.exact) ok.set (λ c r like ends wh e calm.
         let v = get r (m.value (mine place.local)) in
         let z : r ≡ still place.steps = subst (λ b. EndsAt b (still place.steps) r) ok.give.exact ends in
         good_set p S c v (Perform (effect.Clear (record { key = mine place.local; path = r })) (go c v)) m (wh calm.0.kept)
         (λ calm. (
           tt,
-          next c v _ like (fits_there place.local r (form p.core.types u) e) (wh' c r wh calm) (gave place u of ok.give.exact r z calm.0)
+          next c v _ like (fits_there place.local r (form p.core.types u) e) (wh' c r wh calm) (gave place u of ok.give.exact r z ok.give.untied calm.0)
               calm.1,
         )) calm.1)
       where
         wh' : (c : Control) (r : Path) → (IsKept m (mine place.local) → is_whole (get r (m.value (mine place.local))) ≡ true)
-            → IsCalm (Perform (effect.Clear (record { key = mine place.local; path = r })) (go c (get r (m.value (mine place.local))))) m
+            → IsQuiet (Perform (effect.Clear (record { key = mine place.local; path = r })) (go c (get r (m.value (mine place.local))))) m
             → is_whole (get r (m.value (mine place.local))) ≡ true
         wh' c r wh calm = wh calm.0.kept
 
     -- a walk to a place that is stored to, which makes it so; no array is set there
     pub spot_store : (place : Place) (u : TyId) (go : Control → Spot → TyId → Interaction Control) → IsOf p.core k₀.now.fun u place → StoreOk x g place
         → ((c : Control) (m : Copies) (s : Spot) → Like k₀ c
-        → ((v : Val) → Fits p.core.types (form p.core.types u) v → is_whole v ≡ true → MayWrite m s → (holds_array (get s.path (m.value s.key)) ≡ false)
-        × Now (stored x g place) (copying.store m s v)) → Sure S (go c s u) m)
-        → (c : Control) → Like k₀ c → Sure S (spot p ToWrite c place go) m
+        → ((v : Val) (d : InitMap) → Plain d → Sets p.core.types u d v → Fits p.core.types (form p.core.types u) v → is_whole v ≡ true → MayWrite m s
+        → (holds_array (get s.path (m.value s.key)) ≡ false)
+        × Now (stored_as x d g place (is_exact place.steps)) (copying.store m s v)) → Sure p S (go c s u) m)
+        → (c : Control) → Like k₀ c → Sure p S (spot p ToWrite c place go) m
     spot_store place u go of ok next = by (is_exact place.steps) refl ok.entered ok.over next
       where
         by : (b : Bool) → is_exact place.steps ≡ b → IsEntered x g place b → NoArray x g place b
             → ((c : Control) (m : Copies) (s : Spot) → Like k₀ c
-            → ((v : Val) → Fits p.core.types (form p.core.types u) v → is_whole v ≡ true → MayWrite m s
-            → (holds_array (get s.path (m.value s.key)) ≡ false) × Now (stored_if x g place b) (copying.store m s v)) → Sure S (go c s u) m)
-            → (c : Control) → Like k₀ c → Sure S (spot p ToWrite c place go) m
-        by true exact entered none_there next = spot_blank place u _ of exact (λ c m like h is. next c m _ like (λ v fits whole may. (
+            → ((v : Val) (d : InitMap) → Plain d → Sets p.core.types u d v → Fits p.core.types (form p.core.types u) v → is_whole v ≡ true → MayWrite m s
+            → (holds_array (get s.path (m.value s.key)) ≡ false) × Now (stored_as x d g place b) (copying.store m s v)) → Sure p S (go c s u) m)
+            → (c : Control) → Like k₀ c → Sure p S (spot p ToWrite c place go) m
+        by true exact entered none_there next = spot_blank place u _ of exact (λ c m like h is. next c m _ like (λ v d plain sets fits whole may. (
           unset_over g m h place u of is none_there may.kept,
-          covered g m h place.local (still place.steps) u all_set v is may fits (sets_whole p.core.types u v fits whole),
+          covered g m h place.local (still place.steps) u d v is may fits sets plain ok.untied,
         )))
         by false exact entered none_there next = spot_set Writes place u _ of ok.indexes entered (λ c r like ends wh e.
             let z : (j : Selector) × (rest : Path) × (r ≡ still place.steps ++ j ∷ rest) = subst (λ b. EndsAt b (still place.steps) r) exact ends in
             let a = still_array p.core.types (local_type k₀.now.fun place.local) place.steps u exact of.0 in
-            next c m _ like (λ v fits whole may. (
+            next c m _ like (λ v d plain sets fits whole may. (
               no_array p.core.types u (get r (m.value (mine place.local))) (fits_there place.local r (form p.core.types u) e)
                   (λ q arr. absurd (none_there u of.0 q arr)),
               uncovered g m h place.local r v may (subst (λ f. Fits p.core.types f v) (sym e) fits) (λ t y st.
@@ -640,8 +685,10 @@ module _ (p : Setting) (S : Control → Copies → Type 0) (signatures : ℕ →
 
     pub good_write : (place : Place) (u : TyId) (v : Val) (go : Control → Interaction Control) → IsOf p.core k₀.now.fun u place → StoreOk x g place
         → Fits p.core.types (form p.core.types u) v → is_whole v ≡ true
-        → ((c : Control) (m : Copies) → Like k₀ c → Now (stored x g place) m → Sure S (go c) m) → (c : Control) → Like k₀ c → Sure S (write p c place v go) m
-    good_write place u v go of ok fits whole next = spot_store place u _ of ok (λ c m s like store calm. let z = store v fits whole calm.0 in
+        → ((c : Control) (m : Copies) → Like k₀ c → Now (stored x g place) m → Sure p S (go c) m)
+        → (c : Control) → Like k₀ c → Sure p S (write p c place v go) m
+    good_write place u v go of ok fits whole next =
+        spot_store place u _ of ok (λ c m s like store calm. let z = store v all_set plain_set (sets_whole p.core.types u v fits whole) fits whole calm.0 in
         (z.0, next c _ like z.1 calm.1))
 
     -- ARRAYS
@@ -651,8 +698,8 @@ module _ (p : Setting) (S : Control → Copies → Type 0) (signatures : ℕ →
         → ((c : Control) (r : Path) (vs : Vals) → Like k₀ c → EndsAt (is_exact place.steps) (still place.steps) r
         → form_on p.core.types (form_at p.core.types (ty (mine place.local))) r ≡ form p.core.types u
         → FitsEach p.core.types t vs → all_whole vs ≡ true → (IsKept m (mine place.local) → is_whole (get r (m.value (mine place.local))) ≡ true)
-        → Sure S (go c (record { key = mine place.local; path = r }) vs) m)
-        → (c : Control) → Like k₀ c → Sure S (read_array p c place go) m
+        → Sure p S (go c (record { key = mine place.local; path = r }) vs) m)
+        → (c : Control) → Like k₀ c → Sure p S (read_array p c place go) m
     good_arrays place u t go of is idx set next = spot_set Reads place u _ of idx set (λ c r like ends wh e calm.
         let v = get r (m.value (mine place.local)) in
         good_set p S c v (with_array c v (go c (record { key = mine place.local; path = r }))) m (wh calm.0.kept)
@@ -679,6 +726,10 @@ module _ (p : Setting) (S : Control → Copies → Type 0) (signatures : ℕ →
         fits : Fits p.core.types (form p.core.types u) (Array vs)
         fits = (t, is, each)
 
+        no_truth : (b : Bool) → get r (m.value (mine place.local)) ≢ Truth b
+        no_truth b f = let y : Fits p.core.types (Arrays t) (Truth b) = subst (λ a. Fits p.core.types a (Truth b)) is
+            (subst (Fits p.core.types (form p.core.types u)) f (fits_there place.local r (form p.core.types u) e)) in absurd (cc)
+
         by : (b : Bool) → is_exact place.steps ≡ b → EndsAt b (still place.steps) r → (y : TyId) → local_type k₀.now.fun place.local ≡ Some y
             → Sets p.core.types y (h.maps (mine place.local)) (m.value (mine place.local))
             → Sets p.core.types y (h.maps (mine place.local)) (put r (Array vs) (m.value (mine place.local)))
@@ -686,7 +737,8 @@ module _ (p : Setting) (S : Control → Copies → Type 0) (signatures : ℕ →
             subst (λ r. IsThere r (m.value (mine place.local))
             → Sets p.core.types y (h.maps (mine place.local)) (put r (Array vs) (m.value (mine place.local)))) (sym z)
             (λ there. sets_over p.core.types y u t _ _ (still place.steps) (Array vs) st there (ap (λ o. type_at p.core.types o (still place.steps)) (sym q)
-            ∙ exact_type place u of exact) is (subst (λ r. is_whole (get r (m.value (mine place.local))) ≡ true) z (was may.kept)) whole) may.there
+            ∙ exact_type place u of exact) is (subst (λ r. is_whole (get r (m.value (mine place.local))) ≡ true) z (was may.kept)) whole
+            (λ b f. no_truth b (ap (λ r. get r (m.value (mine place.local))) z ∙ f))) may.there
         by false exact z y q st =
             let a = still_array p.core.types (local_type k₀.now.fun place.local) place.steps u exact of.0 in
             subst (λ r. IsThere r (m.value (mine place.local))
@@ -700,7 +752,7 @@ module _ (p : Setting) (S : Control → Copies → Type 0) (signatures : ℕ →
     store_good : (g : FlowState) (m : Copies) → Now g m → (to : Option Place) (u : TyId) (v : Val)
         → shaped.Stores p.core k₀.now.fun to (IsOf p.core k₀.now.fun u) → transfer.Stores x g to d → Fits p.core.types (form p.core.types u) v
         → is_whole v ≡ true
-        → (c : Control) → Like k₀ c → Sure S (store_to p c to v) m
+        → (c : Control) → Like k₀ c → Sure p S (store_to p c to v) m
     store_good g m h None u v of t fits whole c like = absurd t
     store_good g m h (Some place) u v of t fits whole c like =
         good_write g m h place u v Return of t.0 fits whole (λ c m like now calm. done (stored x g place) c m like now t.1) c like
@@ -720,73 +772,74 @@ module _ (p : Setting) (S : Control → Copies → Type 0) (signatures : ℕ →
           by (Some to) n t = absurd n
 
       computed : (y : Form) (v : Val) → shaped.Stores p.core k₀.now.fun to (IsOfForm p.core k₀.now.fun y) → Fits p.core.types y v → is_whole v ≡ true
-          → (c : Control) → Like k₀ c → Sure S (store_to p c to v) m
+          → (c : Control) → Like k₀ c → Sure p S (store_to p c to v) m
       computed y v of fits whole c like = by to of t
         where
-          by : (to : Option Place) → shaped.Stores p.core k₀.now.fun to (IsOfForm p.core k₀.now.fun y) → Computes x g to from d → Sure S (store_to p c to v) m
+          by : (to : Option Place) → shaped.Stores p.core k₀.now.fun to (IsOfForm p.core k₀.now.fun y)
+              → Computes x g to from d → Sure p S (store_to p c to v) m
           by None of t = absurd of
           by (Some place) of t = store_good g m h (Some place) of.0 v of.1 t.1 (subst (λ f. Fits p.core.types f v) (sym of.2) fits) whole c like
 
       one_from : (Q : Place → Type 0) (go : Place → Interaction Control) (c : Control) → shaped.One p.core k₀.now.fun from Q
-          → ((a : Place) → Q a → ReadOk x g a → Sure S (go a) m) → Sure S (with_one c from go) m
+          → ((a : Place) → Q a → ReadOk x g a → Sure p S (go a) m) → Sure p S (with_one c from go) m
       one_from Q go c is next = by from is (are_read to t)
         where
-          by : (from : List Place) → shaped.One p.core k₀.now.fun from Q → all (ReadOk x g) from → Sure S (with_one c from go) m
+          by : (from : List Place) → shaped.One p.core k₀.now.fun from Q → all (ReadOk x g) from → Sure p S (with_one c from go) m
           by [] is ok = absurd is
           by (a ∷ []) is ok = next a is ok.0
           by (a ∷ (b ∷ more)) is ok = absurd is
 
       two_from : (Q : Place → Place → Type 0) (go : Place → Place → Interaction Control) (c : Control) → shaped.Two p.core k₀.now.fun from Q
-          → ((a b : Place) → Q a b → ReadOk x g a → ReadOk x g b → Sure S (go a b) m) → Sure S (with_two c from go) m
+          → ((a b : Place) → Q a b → ReadOk x g a → ReadOk x g b → Sure p S (go a b) m) → Sure p S (with_two c from go) m
       two_from Q go c is next = by from is (are_read to t)
         where
-          by : (from : List Place) → shaped.Two p.core k₀.now.fun from Q → all (ReadOk x g) from → Sure S (with_two c from go) m
+          by : (from : List Place) → shaped.Two p.core k₀.now.fun from Q → all (ReadOk x g) from → Sure p S (with_two c from go) m
           by [] is ok = absurd is
           by (a ∷ []) is ok = absurd is
           by (a ∷ (b ∷ [])) is ok = next a b is ok.0 ok.1.0
           by (a ∷ (b ∷ (z ∷ more))) is ok = absurd is
 
       number_of : (place : Place) (go : Control → ℤ → Interaction Control) → IsOfForm p.core k₀.now.fun (Numbers Int) place → ReadOk x g place
-          → ((c : Control) (i : ℤ) → Like k₀ c → Sure S (go c i) m) → (c : Control) → Like k₀ c → Sure S (read_number p c place go) m
+          → ((c : Control) (i : ℤ) → Like k₀ c → Sure p S (go c i) m) → (c : Control) → Like k₀ c → Sure p S (read_number p c place go) m
       number_of place go of ok next c like =
           good_read g m h place of.0 _ of.1 ok (λ c v like fits whole. good_number p S c v (go c) m whole (λ i. next c i like)) c like
 
       flag_of : (place : Place) (go : Control → Bool → Interaction Control) → IsOfForm p.core k₀.now.fun Flags place → ReadOk x g place
-          → ((c : Control) (i : Bool) → Like k₀ c → Sure S (go c i) m) → (c : Control) → Like k₀ c → Sure S (read_flag p c place go) m
+          → ((c : Control) (i : Bool) → Like k₀ c → Sure p S (go c i) m) → (c : Control) → Like k₀ c → Sure p S (read_flag p c place go) m
       flag_of place go of ok next c like =
           good_read g m h place of.0 _ of.1 ok (λ c v like fits whole. good_flag p S c v (go c) m whole (λ i. next c i like)) c like
 
       value_of : (place : Place) (y : Form) (go : Control → Val → Interaction Control) → IsOfForm p.core k₀.now.fun y place → ReadOk x g place
-          → ((c : Control) (v : Val) → Like k₀ c → Fits p.core.types y v → is_whole v ≡ true → Sure S (go c v) m)
-          → (c : Control) → Like k₀ c → Sure S (read p c place go) m
+          → ((c : Control) (v : Val) → Like k₀ c → Fits p.core.types y v → is_whole v ≡ true → Sure p S (go c v) m)
+          → (c : Control) → Like k₀ c → Sure p S (read p c place go) m
       value_of place y go of ok next c like = good_read g m h place of.0 _ of.1 ok
           (λ c v like fits whole. next c v like (subst (λ y. Fits p.core.types y v) of.2 fits) whole) c like
 
       gives : (s : ℕ) (t : IntegerType) (r : Result Val TrapKind) → IsProper t r
-          → shaped.Stores p.core k₀.now.fun to (IsOfForm p.core k₀.now.fun (Numbers t)) → (c : Control) → Like k₀ c → Sure S (give p c to s r) m
+          → shaped.Stores p.core k₀.now.fun to (IsOfForm p.core k₀.now.fun (Numbers t)) → (c : Control) → Like k₀ c → Sure p S (give p c to s r) m
       gives s t (Ok v) proper of c like = let y = proper_fits p.core.types t v proper in computed (Numbers t) v of y.0 y.1 c like
       gives s t (Err kind) proper of c like = good_trap p S c kind s m
 
       changes : (spans : List ℕ) (t : IntegerType) (f : Val → Option (Result Val TrapKind))
           → shaped.Stores p.core k₀.now.fun to (IsOfForm p.core k₀.now.fun (Numbers t)) → (Q : Place → Type 0) → shaped.One p.core k₀.now.fun from Q
           → ((a : Place) → Q a → (u : IntegerType) × IsOfForm p.core k₀.now.fun (Numbers u) a × GivesOfOne t u f)
-          → (c : Control) → Like k₀ c → Sure S (changes_one p c to from spans f) m
+          → (c : Control) → Like k₀ c → Sure p S (changes_one p c to from spans f) m
       changes spans t f of Q is which c like = one_from Q _ c is (λ a ia ok. any_one p S c spans _ m (λ s.
           let u = which a ia in
           let wa : IsOfForm p.core k₀.now.fun (Numbers u.0) a = u.1 in
           value_of a (Numbers u.0) _ wa ok (λ c v like fits whole.
           let r = one_gives p.core.types t u.0 f u.2 v fits whole in
-          subst (λ o. Sure S (with_some c o (λ r. give p c to s r)) m) (sym r.1) (gives s t r.0 r.2 of c like)) c like))
+          subst (λ o. Sure p S (with_some c o (λ r. give p c to s r)) m) (sym r.1) (gives s t r.0 r.2 of c like)) c like))
 
       calculates : (spans : List ℕ) (f : Val → Val → Option (Result Val TrapKind)) → GivesOfTwo f
-          → shaped.Arithmetic p.core k₀.now.fun to from spans → (c : Control) → Like k₀ c → Sure S (arithmetic p c to from spans f) m
+          → shaped.Arithmetic p.core k₀.now.fun to from spans → (c : Control) → Like k₀ c → Sure p S (arithmetic p c to from spans f) m
       calculates spans f gives_two is c like = two_from _ _ c is.2 (λ a b ab oka okb. any_one p S c spans _ m (λ s.
           value_of a (Numbers is.0) _ ab.0 oka (λ c v like fv vw. value_of b (Numbers is.0) _ ab.1 okb (λ c w like fw ww.
           let r = two_give p.core.types is.0 f gives_two v w fv vw fw ww in
-          subst (λ o. Sure S (with_some c o (λ r. give p c to s r)) m) (sym r.1) (gives s is.0 r.0 r.2 is.1 c like)) c like) c like))
+          subst (λ o. Sure p S (with_some c o (λ r. give p c to s r)) m) (sym r.1) (gives s is.0 r.0 r.2 is.1 c like)) c like) c like))
 
       comparing : (spans : List ℕ) (f : Val → Val → Option Bool) → shaped.Compares p.core k₀.now.fun to from spans
-          → (c : Control) → Like k₀ c → Sure S (compares p c to from f) m
+          → (c : Control) → Like k₀ c → Sure p S (compares p c to from f) m
       comparing spans f is c like = two_from _ _ c is.1 (λ a b ab oka okb.
           let wa : IsOfForm p.core k₀.now.fun (Numbers ab.0) a = ab.1 in
           let wb : IsOfForm p.core k₀.now.fun (Numbers ab.0) b = ab.2 in
@@ -796,7 +849,7 @@ module _ (p : Setting) (S : Control → Copies → Type 0) (signatures : ℕ →
       equating : shaped.Stores p.core k₀.now.fun to (IsOfForm p.core k₀.now.fun Flags)
           → shaped.Two p.core k₀.now.fun from (λ a b. (y : Form) × IsPlain p.core k₀.now.fun y × IsOfForm p.core k₀.now.fun y a
           × IsOfForm p.core k₀.now.fun y b)
-          → (c : Control) → Like k₀ c → Sure S (compares p c to from equal) m
+          → (c : Control) → Like k₀ c → Sure p S (compares p c to from equal) m
       equating stores is c like = two_from _ _ c is (λ a b ab oka okb.
           let wa : IsOfForm p.core k₀.now.fun ab.0 a = ab.2 in
           let wb : IsOfForm p.core k₀.now.fun ab.0 b = ab.3 in
@@ -805,7 +858,7 @@ module _ (p : Setting) (S : Control → Copies → Type 0) (signatures : ℕ →
 
       printing : shaped.StoresNothing p.core k₀.now.fun to → shaped.One p.core k₀.now.fun from (λ a. (y : Form) × IsPlain p.core k₀.now.fun y
           × IsOfForm p.core k₀.now.fun y a) → (c : Control) → Like k₀ c
-          → Sure S (with_one c from (λ a. read p c a (λ c v. prints c (line_of v)))) m
+          → Sure p S (with_one c from (λ a. read p c a (λ c v. prints c (line_of v)))) m
       printing none is c like = one_from _ _ c is (λ a ia ok.
           let wa : IsOfForm p.core k₀.now.fun ia.0 a = ia.2 in
           good_read g m h a wa.0 _ wa.1 ok (λ c v like _ _. good_some p S c (line_of v) _ m
@@ -814,30 +867,30 @@ module _ (p : Setting) (S : Control → Copies → Type 0) (signatures : ℕ →
 
       counting : shaped.Stores p.core k₀.now.fun to (IsOfForm p.core k₀.now.fun (Numbers Int))
           → shaped.One p.core k₀.now.fun from (λ array. (t : TyId) × IsOfForm p.core k₀.now.fun (Arrays t) array) → (c : Control) → Like k₀ c
-          → Sure S (with_one c from (λ array. read_array p c array (λ c at vs. store_to p c to (Number Int (pos (many vs)))))) m
+          → Sure p S (with_one c from (λ array. read_array p c array (λ c at vs. store_to p c to (Number Int (pos (many vs)))))) m
       counting stores is c like = one_from _ _ c is (λ a ia ok.
           let wa : IsOfForm p.core k₀.now.fun (Arrays ia.0) a = ia.1 in
           good_arrays g m h a wa.0 ia.0 _ wa.1 wa.2 ok.indexes ok.set
           (λ c r vs like _ _ _ _ _. computed (Numbers Int) (Number Int (pos (many vs))) stores (refl, tt) refl c like) c like)
 
       reading : (s : ℕ) (got : Got) → shaped.Stores p.core k₀.now.fun to (IsOfForm p.core k₀.now.fun (Numbers Int)) → (c : Control) → Like k₀ c
-          → Sure S (reads p c to s got) m
+          → Sure p S (reads p c to s got) m
       reading s (lines.Gives i rest) of c like =
           computed (Numbers Int) (Number Int i) of (refl, tt) refl (record c { input = rest }) (like_with k₀ c c.turns c.opened rest c.output like)
       reading s (lines.Fails rest) of c like = good_trap p S (record c { input = rest }) trap.Input s m
       reading s lines.Wants of c like = λ calm. over (Ends end.Asks) refl (λ e. absurd (cc))
 
       checking : (s : ℕ) (b : Bool) → shaped.StoresNothing p.core k₀.now.fun to → (c : Control) → Like k₀ c
-          → Sure S (cond b (Return c) (trapped p c trap.Precondition s)) m
+          → Sure p S (cond b (Return c) (trapped p c trap.Precondition s)) m
       checking s true none c like calm = are_done c like none
       checking s false none c like calm = good_trap p S c trap.Precondition s m calm
 
       new_array : shaped.Stores p.core k₀.now.fun to (λ place. (t : TyId) × IsOfForm p.core k₀.now.fun (Arrays t) place) → (c : Control) → Like k₀ c
-          → Sure S (store_to p c to (Array No)) m
+          → Sure p S (store_to p c to (Array No)) m
       new_array of c like = by to of t
         where
           by : (to : Option Place) → shaped.Stores p.core k₀.now.fun to (λ place. (t : TyId) × IsOfForm p.core k₀.now.fun (Arrays t) place)
-              → Computes x g to from d → Sure S (store_to p c to (Array No)) m
+              → Computes x g to from d → Sure p S (store_to p c to (Array No)) m
           by None of t = absurd of
           by (Some place) of t = let w : IsOfForm p.core k₀.now.fun (Arrays of.0) place = of.1 in
               store_good g m h (Some place) w.0 (Array No) w.1 t.1 (of.0, w.2, tt) refl c like
@@ -848,7 +901,7 @@ module _ (p : Setting) (S : Control → Copies → Type 0) (signatures : ℕ →
         → transfer.Two x from (λ array a. TakeOk x g a × ChangeOk x (given x g a) array × FlowsInto x (given x g a) d)
         → shaped.Two p.core k₀.now.fun from (λ array a. (t : TyId) × IsOfForm p.core k₀.now.fun (Arrays t) array × IsOf p.core k₀.now.fun t a)
         → (c : Control) → Like k₀ c
-        → Sure S (with_two c from
+        → Sure p S (with_two c from
         (λ array a. take p c a (λ c v. read_array p c array (λ c at vs. Perform (effect.Change at (Array (at_end vs v))) (Return c))))) m
     push_good g m h [] t is c like = absurd t
     push_good g m h (array ∷ []) t is c like = absurd t
@@ -867,7 +920,7 @@ module _ (p : Setting) (S : Control → Copies → Type 0) (signatures : ℕ →
         → transfer.One x from (λ array. ChangeOk x g array × transfer.Stores x g to d)
         → shaped.One p.core k₀.now.fun from (λ array. (t : TyId) × IsOfForm p.core k₀.now.fun (Arrays t) array
         × shaped.Stores p.core k₀.now.fun to (IsOf p.core k₀.now.fun t)) → (c : Control) → Like k₀ c
-        → Sure S (with_one c from (λ array. with_one c spans (λ s. read_array p c array (λ c at vs. pop p c to s at vs)))) m
+        → Sure p S (with_one c from (λ array. with_one c spans (λ s. read_array p c array (λ c at vs. pop p c to s at vs)))) m
     pop_good g m h to [] spans t is c like = absurd t
     pop_good g m h to (array ∷ (b ∷ more)) spans t is c like = absurd is
     pop_good g m h to (array ∷ []) spans t is c like =
@@ -877,7 +930,7 @@ module _ (p : Setting) (S : Control → Copies → Type 0) (signatures : ℕ →
         by : (s : ℕ) (r : Path) (vs : Vals) → EndsAt (is_exact array.steps) (still array.steps) r
             → form_on p.core.types (form_at p.core.types (ty (mine array.local))) r ≡ form p.core.types is.1.0
             → FitsEach p.core.types is.0 vs → all_whole vs ≡ true → (IsKept m (mine array.local) → is_whole (get r (m.value (mine array.local))) ≡ true)
-            → (c : Control) → Like k₀ c → Sure S (pop p c to s (record { key = mine array.local; path = r }) vs) m
+            → (c : Control) → Like k₀ c → Sure p S (pop p c to s (record { key = mine array.local; path = r }) vs) m
         by s r No ends e each ws was c like calm = good_trap p S c trap.Empty s m calm
         by s r (And v vs) ends e each ws was c like calm =
             let y = each_popped p.core.types is.0 v vs each.0 each.1 in
@@ -891,7 +944,7 @@ module _ (p : Setting) (S : Control → Copies → Type 0) (signatures : ℕ →
         → transfer.Three x from (λ array a b. ReadOk x g a × ReadOk x g b × ChangeOk x g array × FlowsInto x g d)
         → shaped.Three p.core k₀.now.fun from (λ array a b. (t : TyId) × IsOfForm p.core k₀.now.fun (Arrays t) array
         × IsOfForm p.core k₀.now.fun (Numbers Int) a × IsOfForm p.core k₀.now.fun (Numbers Int) b) → (c : Control) → Like k₀ c
-        → Sure S (with_three c from (λ array a b. with_two c spans (λ s t. swap p c array a b s t))) m
+        → Sure p S (with_three c from (λ array a b. with_two c spans (λ s t. swap p c array a b s t))) m
     swap_good g m h [] spans t is c like = absurd t
     swap_good g m h (array ∷ []) spans t is c like = absurd t
     swap_good g m h (array ∷ (a ∷ [])) spans t is c like = absurd t
@@ -913,7 +966,7 @@ module _ (p : Setting) (S : Control → Copies → Type 0) (signatures : ℕ →
     free_good : (g : FlowState) (m : Copies) → Now g m → (from : List Place)
         → transfer.One x from (λ array. TakeOk x g array × FlowsInto x (given x g array) d)
         → shaped.One p.core k₀.now.fun from (λ array. (t : TyId) × IsOfForm p.core k₀.now.fun (Arrays t) array)
-        → (c : Control) → Like k₀ c → Sure S (with_one c from (λ array. read_array p c array (λ c at vs. Perform (effect.Clear at) (Return c)))) m
+        → (c : Control) → Like k₀ c → Sure p S (with_one c from (λ array. read_array p c array (λ c at vs. Perform (effect.Clear at) (Return c)))) m
     free_good g m h [] t is c like = absurd t
     free_good g m h (array ∷ (b ∷ more)) t is c like = absurd is
     free_good g m h (array ∷ []) t is c like =
@@ -921,12 +974,12 @@ module _ (p : Setting) (S : Control → Copies → Type 0) (signatures : ℕ →
         good_arrays g m h array w.0 is.0 _ w.1 w.2 (exact_indexes g array.steps t.0.give.exact) t.0.set (λ c r vs like ends e each ws was calm. (
           tt,
           done (given x g array) c _ like (gave g m h array w.0 w.1 t.0.give.exact r (subst (λ b. EndsAt b (still array.steps) r) t.0.give.exact ends)
-              calm.0) t.1,
+              t.0.give.untied calm.0) t.1,
         )) c like
 
     pub built_good : (g : FlowState) (m : Copies) → Now g m → (o : Operator) (to : Option Place) (from : List Place) (spans : List ℕ)
         → TransfersBuilt x o to from g d → IsBuilt p.core k₀.now.fun o to from spans → (c : Control) → Like k₀ c
-        → Sure S (built p c o to from spans) m
+        → Sure p S (built p c o to from spans) m
     built_good g m h Add to from spans t is c like = calculates g m h to from t spans _ (operated_gives operation.Add) is c like
     built_good g m h Sub to from spans t is c like = calculates g m h to from t spans _ (operated_gives operation.Sub) is c like
     built_good g m h Mul to from spans t is c like = calculates g m h to from t spans _ (operated_gives operation.Mul) is c like

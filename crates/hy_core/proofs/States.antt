@@ -1,18 +1,18 @@
--- Each state of the two runs of a ready core.
-use Rattle.std.proofs.Common.{◌≡◌, ℕ, zero, suc, refl, sym, subst}
+-- Each state of the two runs of a core that has a flow.
+use Rattle.std.proofs.Common.{◌≡◌, ℕ, zero, suc, refl, subst}
 use Rattle.hy_core.specs.Values.{shape}
 use Rattle.hy_core.specs.Memory.{Copies, Cells, copying, lending, no_copies, no_cells}
 use Rattle.hy_core.specs.Runs.{Interaction, Fetch, Inspect, Perform, Return, apply, State, interpret, steps}
 use Rattle.hy_core.specs.Calm.{IsCalm, StaysCalm}
+use Rattle.hy_core.specs.Control.{Stage}
 use Rattle.hy_core.specs.Statements.{interaction, start}
 use Rattle.hy_core.specs.Meaning.{setting}
 use Rattle.hy_core.specs.Dropped.{KeepsAll, StaysDropped}
-use Rattle.hy_core.specs.Flow.{HasFlow}
 use Rattle.hy_core.specs.States.{ReadyStates}
 use Rattle.hy_core.proofs.OpenPlaces.{Sound, nothing_open, sound_apply}
 use Rattle.hy_core.proofs.Follows.{Agrees, agrees_first, agree_of}
 use Rattle.hy_core.proofs.LockStep.{step_same}
-use Rattle.hy_core.proofs.FlowIsCalm.{ready_is_calm}
+use Rattle.hy_core.proofs.FlowIsCalm.{flow_touches_calmly}
 use Rattle.hy_core.proofs.SetRuns.{flow_is_dropped}
 
 calm_sound : {C : Type 0} (t : Interaction C) (m : Copies) → IsCalm t m → Sound m → Sound (interpret copying t m).memory
@@ -37,21 +37,20 @@ at_step go (suc n) c d m s e a x calm =
     (at_step go n z.control (interpret lending (go c) s).control z.memory (interpret lending (go c) s).memory h.control h.memory
     (calm_sound (go c) m (calm 1).0 x) (λ k. (calm (suc k)).1))
 
-keeps_at : {C : Type 0} (go : C → Interaction C) (n : ℕ) (c : C) (m : Copies) → ((k : ℕ) → StaysDropped go k c m) → let x = steps copying go n c m in
-    KeepsAll (go x.control) x.memory
-keeps_at go zero c m h = (h 1).0
-keeps_at go (suc n) c m h = let z = interpret copying (go c) m in keeps_at go n z.control z.memory (λ k. (h (suc k)).1)
+keeps_at : (stage : Stage) {C : Type 0} (go : C → Interaction C) (n : ℕ) (c : C) (m : Copies) → ((k : ℕ) → StaysDropped stage go k c m)
+    → let x = steps copying go n c m in KeepsAll stage (go x.control) x.memory
+keeps_at stage go zero c m h = (h 1).0
+keeps_at stage go (suc n) c m h = let z = interpret copying (go c) m in keeps_at stage go n z.control z.memory (λ k. (h (suc k)).1)
 
 pub ready_states : ReadyStates
-ready_states r e ready k =
+ready_states r sh flow k =
     let a = at_step (interaction (setting r)) k (start r.core r.input r.turns) (start r.core r.input r.turns) no_copies no_cells refl agrees_first
-    nothing_open (λ k. ready_is_calm r e ready k) in
+    nothing_open (λ k. flow_touches_calmly r sh flow k) in
     record {
       control = a.control;
       ready = record {
         agree = agree_of a.agrees.rank _ _ a.agrees.follows a.sound;
         calm = a.calm;
-        keeps = keeps_at (interaction (setting r)) k (start r.core r.input r.turns) no_copies
-            (λ k. flow_is_dropped r e ready.shaped (subst (λ s. HasFlow s r.core) (sym e) ready.flow) k);
+        keeps = keeps_at r.stage (interaction (setting r)) k (start r.core r.input r.turns) no_copies (λ k. flow_is_dropped r sh flow k);
       };
     }

@@ -8,7 +8,7 @@ use Rattle.hy_types.specs.declared.kinds.TyId.{TyId}
 use Rattle.hy_types.specs.Types.{declared}
 use Rattle.hy_core.specs.Plain.{Place, Done, Then, Stmt, Built, Set, Lend, Close, Move, Copy, Drop, Call, Project, Slide, Yield, If, While, Break, Continue}
 use Rattle.hy_core.specs.Plain.{Leave, Fun, Deinit, is_ramp, lent_types, types_of}
-use Rattle.hy_core.specs.Values.{Val, Unset, Number, Truth, Tuple, Product, Array, Vals, No, And, nth, get, all_whole, Selector, PartAt}
+use Rattle.hy_core.specs.Values.{Val, Unset, Number, Truth, Tuple, Product, Array, Vals, No, And, nth, get, all_whole, is_blank, Selector, PartAt}
 use Rattle.hy_core.specs.Memory.{Key, Spot, whole, below, Writes, Copies, copying, no_copies}
 use Rattle.hy_core.specs.Runs as effect
 use Rattle.hy_core.specs.Runs.{Interaction, Fetch, Inspect, Perform, Return, interpret, steps}
@@ -20,6 +20,7 @@ use Rattle.hy_core.specs.Control.{Aim, ToRead, ToWrite, ToDrop, sleeper_of, wake
 use Rattle.hy_core.specs.Control as control
 use Rattle.hy_core.specs.Statements.{charge, begun, hand_all, move_all, enter, close_all, back, yield_to, slide_of, close_of, is_counted, count_if, way}
 use Rattle.hy_core.specs.Statements.{aim, deinit_of, is_there, deeds, deeds_from, part_deeds, elements, doing, deinit_body, does_deed, first_deed}
+use Rattle.hy_core.specs.Statements.{is_whole_product, clears}
 use Rattle.hy_core.specs.Statements.{does_tasks, drop, broken, continued, does, tested, goes_on, interaction_of, interaction, begins_with, start}
 use Rattle.hy_core.specs.Meaning.{setting}
 use Rattle.hy_core.specs.Typing.{all}
@@ -473,7 +474,7 @@ module _ (p : Setting) where
       elements_ok s (suc i) ts lt h = elements_ok s i _ lt (lt, h)
 
     -- the deinitialiser that a product has
-    deinit_found : (ds : List Deinit) (d k : ℕ) → deinit_of ds d ≡ Some k → all (IsDeinit p.core) ds → (x : Deinit) × (x.product ≡ d) × (x.fun ≡ k)
+    pub deinit_found : (ds : List Deinit) (d k : ℕ) → deinit_of ds d ≡ Some k → all (IsDeinit p.core) ds → (x : Deinit) × (x.product ≡ d) × (x.fun ≡ k)
         × IsDeinit p.core x
     deinit_found [] d k e h = absurd (cc)
     deinit_found (x ∷ xs) d k e h = go (x.product == d) (eqb_tells x.product d) e (λ e. deinit_found xs d k e h.1)
@@ -488,7 +489,7 @@ module _ (p : Setting) where
     module _ (forms : Key → Form) (n : ℕ) (f : Fun) (y : Bool) where
       good_body : (c : Control) (m : Copies) (d : ℕ) (s : Spot) (k : ℕ) → Q forms n n f y c → IsBody forms n d s → deinit_of p.core.deinits d ≡ Some k
           → IsTyped p.core.types forms n m
-          → Good Stands (deinit_body c s (slice_get p.core.funs k)) m
+          → Good Stands (deinit_body c d s (slice_get p.core.funs k)) m
       good_body c m d s k q b found h =
           let x = deinit_found p.core.deinits d k found sh.deinits in
           let is : IsDeinit p.core x.0 = x.3 in
@@ -506,10 +507,19 @@ module _ (p : Setting) where
           ap (λ k. new (at k zero)) started ∙ first ∙ is.product ∙ (λ i. Products (x.1 i) (parts_is i)) ∙ sym b.product
           ∙ ap (λ f. form_on p.core.types f s.path) (sym (old_forms forms n g s.key lt)) in
           good_some p Stands c (slice_get p.core.funs k) _ m g at_fun
-          (good_turn p Stands (count_one c) c.turns _ m (λ j. begins new n f y (record c { opened = suc c.opened; turns = j }) _ g Nowhere (sh.funs k g at_fun)
+          (good_turn p Stands (count_one c) c.turns _ m (λ j. by (is_whole_product d (get s.path (m.value s.key))) j g
+          (begins new n f y (record c { opened = suc c.opened; turns = j }) _ g Nowhere (sh.funs k g at_fun)
           (q_keep forms n f y c new (suc n) (omega arith) (old_forms forms n g) q) tt (subst (λ r. DestOk r false Nowhere) (sym is.ramp) tt)
           (new_forms forms n g)
-          (typed_lend p.core.types new (suc n) m (typed_new forms n g m h) (at c.started zero) s Writes (omega arith) (omega arith) same)))
+          (typed_lend p.core.types new (suc n) m (typed_new forms n g m h) (at c.started zero) s Writes (omega arith) (omega arith) same))))
+        where
+          by : (b : Bool) (j : ℕ) (g : Fun)
+              → Fine Stands (begun (record c { opened = suc c.opened; turns = j }) g Nowhere) (copying.lend m (at c.started zero) s Writes)
+              → Good Stands (cond b (Perform (effect.Lend (at c.started zero) s Writes)
+              (Return (begun (record c { opened = suc c.opened; turns = j }) g Nowhere)))
+              (Return (record c { opened = suc c.opened; turns = j }))) m
+          by true j g begins = begins
+          by false j g begins = q_done forms n f y (record c { opened = suc c.opened; turns = j }) m q h
 
       -- with what is left after the deinitialisation
       abbrev OnOk : Control → Work → Type 0
@@ -539,6 +549,11 @@ module _ (p : Setting) where
       good_first c m w [] ts t base on a b typed h = h
       good_first c m w (d ∷ ds) ts t base on a b typed h = good_deed c m w d (doing ds ts) base on a.0 (doing_ok forms n ds ts a.1 b) typed
 
+      good_clears : (b : Bool) (s : Spot) (t : Interaction Control) (m : Copies) → Good Stands t m → Good Stands t (copying.store m s Unset)
+          → Good Stands (clears s b t) m
+      good_clears true s t m kept cleared = kept
+      good_clears false s t m kept cleared = cleared
+
       good_tasks : (c : Control) (w : Work) (ts : List Task) (m : Copies) → BaseOf forms n n f c → Goes_on forms n f y w c.now.dest
           → all (TaskOk forms n) ts → IsTyped p.core.types forms n m → Good Stands (does_tasks p c w ts) m
       good_tasks c w [] m base on h typed = goes forms n f y c m w base on typed
@@ -551,7 +566,8 @@ module _ (p : Setting) where
           let v = get s.path (m.value s.key) in
           good_first c m w (part_deeds p.core.deinits s v) ts _ base on (part_deeds_ok forms n s v h.0 (typed_read p.core.types forms n m typed s)) h.1
           typed (good_tasks c w ts m base on h.1 typed)
-      good_tasks c w (Unsets s ∷ ts) m base on h typed = good_tasks c w ts _ base on h.1 (typed_store p.core.types forms n m typed s Unset h.0 tt)
+      good_tasks c w (Unsets s ∷ ts) m base on h typed = good_clears (is_blank (get s.path (m.value s.key))) s _ m (good_tasks c w ts m base on h.1 typed)
+          (good_tasks c w ts _ base on h.1 (typed_store p.core.types forms n m typed s Unset h.0 tt))
 
     -- STATEMENTS
 

@@ -1,11 +1,11 @@
 -- Small cores, and what they do: the same in both memories.
-use Rattle.std.specs.Prelude.{◌≡◌, ℕ, Bool, true, false, List, [], ◌∷◌, ◌++◌, Some, None, ℤ, pos, negsuc, neg_ℤ, codes}
+use Rattle.std.specs.Prelude.{◌≡◌, if◌then◌else◌, ℕ, Bool, true, false, List, [], ◌∷◌, ◌++◌, Some, None, ℤ, pos, negsuc, neg_ℤ, codes}
 use Rattle.hy_base.specs.declared.run.End.TheVariants as end
 use Rattle.hy_base.specs.declared.run.TrapKind.{TrapKind}
 use Rattle.hy_base.specs.declared.run.TrapKind.TheVariants as trap
 use Rattle.hy_core.specs.Plain.{Operator, Add, Sub, Mul, Div, Rem, Eq, Lt, NewArray, Push, Pop, Swap, Count, Print, Read, Check, Done, Stmt, Built, Set}
 use Rattle.hy_core.specs.Plain.{Lend, Close, Move, Copy, Drop, Call, Project, Slide, Yield, If, While, Break, Continue, Leave, Reads, Writes, Fun, Core}
-use Rattle.hy_core.specs.Control.{Ends, Deinitialises}
+use Rattle.hy_core.specs.Control.{Ends, Stage, Deinitialises, GivesUp}
 use Rattle.hy_core.specs.Meaning.{Report, Run, copied, lent}
 use Rattle.hy_core.specs.Notation.{of, part, deep, item, push, stmts, print, compute, tell, int, let_of, inout_of, set_of, unit, number, truth, pair}
 use Rattle.hy_core.specs.Notation.{numbers, cell, dying, dyings, rows, tree, two, numbers_for, fun, ramp, main, index_span, trap_span, core, dying_core}
@@ -191,6 +191,50 @@ a_tree = core (main (unit ∷ tree ∷ tree ∷ tree ∷ tree ∷ number ∷ [])
     Built Push None (part 1 0 ∷ of 3 ∷ []) []
     ∷ Copy (of 2) (of 1) ∷ tell Count 5 (part 2 0 ∷ []) ∷ print (of 5) ∷ Drop (of 5) ∷ Drop (of 2) ∷ Drop (of 1) ∷ leave 0) ∷ [])
 
+-- WHAT IS SET ON ONE WAY ONLY
+
+-- with the body of D's deinitialiser as function 1, and fun consume(_ d: sink D) { print(100) } as function 2
+abbrev pub consuming : (consume : List Stmt) → List Stmt → Core
+consuming consume body = dying_core (main (unit ∷ dying ∷ number ∷ number ∷ truth ∷ truth ∷ dying ∷ dying ∷ []) body ∷ prints_k
+    ∷ fun [] (dying ∷ []) unit (number ∷ dying ∷ unit ∷ []) (int 1 100 ∷ print (of 1) ∷ Drop (of 1) ∷ consume) ∷ prints_nought ∷ []) 1 3
+
+-- read() == 1 in local 4
+abbrev pub reads_one : List Stmt
+reads_one = compute Read 2 [] ∷ int 3 1 ∷ tell Eq 4 (of 2 ∷ of 3 ∷ []) ∷ Drop (of 3) ∷ Drop (of 2) ∷ []
+
+-- the deinitialisation of local 1, spelt out, as in a checked core
+abbrev pub gives_up : (local with : ℕ) → List Stmt
+gives_up l with = Lend with (of l) true ∷ Call 1 (with ∷ []) [] (of 0) ∷ Drop (of 0) ∷ Close with ∷ Drop (of l) ∷ []
+
+-- var x = D(k: 5); if read() == 1 { consume(x) }; print(200)
+abbrev pub moved_if_one : Core
+moved_if_one = consuming (Drop (of 0) ∷ leave 3) (Set (part 1 0) (pos 5) ∷ reads_one
+    ++ If 4 (stmts (Drop (of 4) ∷ Call 2 [] (of 1 ∷ []) (of 0) ∷ [])) (stmts (Drop (of 4) ∷ []))
+    ∷ int 2 200 ∷ print (of 2) ∷ Drop (of 2) ∷ Drop (of 1) ∷ leave 0)
+
+-- the same, checked: local 5 is true exactly where x is set
+abbrev pub moved_if_one_checked : Core
+moved_if_one_checked = consuming (Lend 2 (of 0) true ∷ Call 1 (2 ∷ []) [] (of 3) ∷ Close 2 ∷ Drop (of 0) ∷ leave 3)
+    (Set (part 1 0) (pos 5) ∷ int 5 1 ∷ reads_one
+    ++ If 4 (stmts (Drop (of 4) ∷ Call 2 [] (of 1 ∷ []) (of 0) ∷ Drop (of 0) ∷ int 5 0 ∷ [])) (stmts (Drop (of 4) ∷ []))
+    ∷ int 2 200 ∷ print (of 2) ∷ Drop (of 2) ∷ If 5 (stmts (gives_up 1 6)) Done ∷ Drop (of 5) ∷ leave 0)
+
+-- var x: D; if read() == 1 { x = D(k: 1) }; x = D(k: 2); print(x.k)
+abbrev pub set_if_one : Core
+set_if_one = consuming (Drop (of 0) ∷ leave 3) (reads_one
+    ++ If 4 (stmts (Drop (of 4) ∷ Set (part 1 0) (pos 1) ∷ [])) (stmts (Drop (of 4) ∷ []))
+    ∷ Drop (of 1) ∷ Set (part 1 0) (pos 2) ∷ print (part 1 0) ∷ Drop (of 1) ∷ leave 0)
+
+abbrev pub set_if_one_checked : Core
+set_if_one_checked = consuming (Lend 2 (of 0) true ∷ Call 1 (2 ∷ []) [] (of 3) ∷ Close 2 ∷ Drop (of 0) ∷ leave 3)
+    (int 5 0 ∷ reads_one
+    ++ If 4 (stmts (Drop (of 4) ∷ Set (part 1 0) (pos 1) ∷ int 5 1 ∷ [])) (stmts (Drop (of 4) ∷ []))
+    ∷ If 5 (stmts (gives_up 1 6)) Done ∷ Drop (of 5) ∷ Set (part 1 0) (pos 2) ∷ print (part 1 0) ∷ (gives_up 1 7 ++ leave 0))
+
+-- a run that reads 1 or 0
+abbrev pub reading : Stage → Core → (one : Bool) → Run
+reading stage core one = record { core = core; stage = stage; cut = false; input = if one then codes "1" ++ 10 ∷ [] else codes "0" ++ 10 ∷ []; turns = 9 }
+
 -- LOOPS, ENDS AND INPUT
 
 -- var i = 0; while i < 10 { print(i); i += 1 }
@@ -278,6 +322,16 @@ pub record Deinitialisers : Type 0 where
   pub tree : Shows (unchecked a_tree 30) 60 (done (pos 2 ∷ []) 22 21)
   pub copy_spent : Shows (unchecked a_tree 4) 60 (ended end.Spent [] 4 3)
 
+pub record OneWay : Type 0 where
+  pub moved : Shows (reading Deinitialises moved_if_one true) 60 (took 2 (done (pos 100 ∷ pos 5 ∷ pos 200 ∷ []) 3 1))
+  pub moved_not : Shows (reading Deinitialises moved_if_one false) 60 (took 2 (done (pos 200 ∷ pos 5 ∷ []) 2 1))
+  pub moved_checked : Shows (reading GivesUp moved_if_one_checked true) 60 (took 2 (done (pos 100 ∷ pos 5 ∷ pos 200 ∷ []) 3 1))
+  pub moved_not_checked : Shows (reading GivesUp moved_if_one_checked false) 60 (took 2 (done (pos 200 ∷ pos 5 ∷ []) 2 1))
+  pub set : Shows (reading Deinitialises set_if_one true) 60 (took 2 (done (pos 1 ∷ pos 2 ∷ pos 2 ∷ []) 3 2))
+  pub set_not : Shows (reading Deinitialises set_if_one false) 60 (took 2 (done (pos 2 ∷ pos 2 ∷ []) 2 1))
+  pub set_checked : Shows (reading GivesUp set_if_one_checked true) 60 (took 2 (done (pos 1 ∷ pos 2 ∷ pos 2 ∷ []) 3 2))
+  pub set_not_checked : Shows (reading GivesUp set_if_one_checked false) 60 (took 2 (done (pos 2 ∷ pos 2 ∷ []) 2 1))
+
 pub record Loops : Type 0 where
   pub whole : Shows (checked a_loop 11) 150 (done (pos 0 ∷ pos 1 ∷ pos 2 ∷ pos 3 ∷ pos 4 ∷ pos 5 ∷ pos 6 ∷ pos 7 ∷ pos 8 ∷ pos 9 ∷ []) 11 0)
   pub spent : Shows (checked a_loop 10) 150 (ended end.Spent (pos 0 ∷ pos 1 ∷ pos 2 ∷ pos 3 ∷ pos 4 ∷ pos 5 ∷ pos 6 ∷ pos 7 ∷ pos 8 ∷ []) 10 0)
@@ -321,6 +375,7 @@ pub record Examples : Type 0 where
   pub places : LentPlaces
   pub subscripts : Subscripts
   pub deinitialisers : Deinitialisers
+  pub one_way : OneWay
   pub loops : Loops
   pub inputs : Inputs
   pub operations : Operations

@@ -1,5 +1,6 @@
 -- The flow of a core: at each statement, what is set and what is open there in every run. A core that has a flow is calm.
-use Rattle.std.specs.Prelude.{◌≡◌, ◌≢◌, ◌≤◌, ◌==◌, ℕ, suc, cond, Bool, true, false, List, [], ◌∷◌, ◌++◌, length, Option, Some, None, slice_get}
+use Rattle.std.specs.Prelude.{◌≡◌, ◌≢◌, ◌⊎◌, ◌≤◌, ◌==◌, ℕ, zero, suc, ℤ, pos, negsuc, cond, Bool, true}
+use Rattle.std.specs.Prelude.{false, List, [], ◌∷◌, ◌++◌, length, Option, Some, None, slice_get}
 use Rattle.hy_types.specs.declared.kinds.TyId.{TyId}
 use Rattle.hy_types.specs.Types.{Table}
 use Rattle.hy_core.specs.Plain.{Step, Part, Index, Place, Operator, Add, Sub, Mul, Div, Rem, Neg, Convert, Eq, Lt, Le, Not, NewArray, Push, Pop, Swap}
@@ -8,17 +9,38 @@ use Rattle.hy_core.specs.Plain.{Slide, Yield, If, While, Break, Continue, Leave,
 use Rattle.hy_core.specs.Plain.{Core}
 use Rattle.hy_core.specs.Values.{selector_eq, Path, Apart}
 use Rattle.hy_core.specs.Memory.{Way, Reads, Writes}
-use Rattle.hy_core.specs.Control.{local_type, Stage, Deinitialises, GivesUp}
+use Rattle.hy_core.specs.Control.{Form, Numbers, Flags, Tuples, Products, Arrays, Unknown, form, local_type, Stage, Deinitialises, GivesUp}
 use Rattle.hy_core.specs.Statements.{way}
 use Rattle.hy_core.specs.Shaped.{filled_by}
 use Rattle.hy_core.specs.Typing.{Among, all, place_type, IsLeaf, IsArrayAt, still, still_type}
 
 -- WHAT IS SET
 
--- of a part without parts of its own: a number, a truth value, an array, or what has no parts. A whole is set as its parts are.
+-- Of a part without parts of its own: a number, a truth value, an array, or what has no parts. A whole is set as its parts are.
+-- What is set on one way to a statement and unset on another is doubtful: in a core just that, and in a checked core set exactly
+-- where a local of the body is true.
 pub data InitState : Type 0 where
   IsSet : InitState
   IsUnset : InitState
+  -- set, to this truth value
+  IsKnown : Bool → InitState
+  IsDoubtful : InitState
+  IsSetWith : (flag : ℕ) → InitState
+
+abbrev pub IsSetSo : InitState → Type 0
+IsSetSo IsSet = Unit {0}
+IsSetSo IsUnset = ⊥
+IsSetSo (IsKnown b) = Unit {0}
+IsSetSo IsDoubtful = ⊥
+IsSetSo (IsSetWith f) = ⊥
+
+-- What counts as the state that is wanted. What is doubtful counts as unset where a set part is wanted, and as set where an unset one is.
+abbrev pub Counts : (wanted : InitState) → InitState → Type 0
+Counts IsSet s = IsSetSo s
+Counts IsUnset s = s ≡ IsUnset
+Counts (IsKnown b) s = s ≡ IsKnown b
+Counts IsDoubtful s = ⊥
+Counts (IsSetWith f) s = ⊥
 
 -- the state of each part of a place, by path
 abbrev pub InitMap : Type 0
@@ -170,16 +192,39 @@ MayOpenAt g l p Writes = MayWriteAt g l p
 abbrev pub IndexesOk : FlowState → List Step → Type 0
 IndexesOk g [] = Unit {0}
 IndexesOk g (Part i ∷ steps) = IndexesOk g steps
-IndexesOk g (Index l s ∷ steps) = MayReadAt g l [] × (g.init l [] ≡ IsSet) × IndexesOk g steps
+IndexesOk g (Index l s ∷ steps) = MayReadAt g l [] × IsSetSo (g.init l []) × IndexesOk g steps
+
+-- the state of what a `Set` stores
+abbrev pub constant_state : Form → ℤ → InitState
+constant_state (Numbers t) n = IsSet
+constant_state Flags (pos zero) = IsKnown false
+constant_state Flags (pos (suc n)) = IsKnown true
+constant_state Flags (negsuc n) = IsSet
+constant_state (Tuples parts) n = IsSet
+constant_state (Products d parts) n = IsSet
+constant_state (Arrays t) n = IsSet
+constant_state Unknown n = IsSet
+
+-- where a local is true or is false, what is set exactly where it is true is set or is not
+abbrev pub resolved : ℕ → Bool → InitState → InitState
+resolved f b IsSet = IsSet
+resolved f b IsUnset = IsUnset
+resolved f b (IsKnown c) = IsKnown c
+resolved f b IsDoubtful = IsDoubtful
+resolved f b (IsSetWith k) = cond (k == f) (cond b IsSet IsUnset) (IsSetWith k)
 
 -- each part of the type stands so
 abbrev pub Each : Table → TyId → InitMap → InitState → Type 0
-Each types t c s = (q : Path) → IsLeaf types t q → c q ≡ s
+Each types t c s = (q : Path) → IsLeaf types t q → Counts s (c q)
 
 module _ (x : Context) where
   -- a local that a `Lend` or `Project` fills is used only while it is open
   abbrev pub IsLive : FlowState → ℕ → Type 0
   IsLive g l = g.status l ≡ Own → Among l (filled_by x.fun.body) → ⊥
+
+  -- no doubtful part is set exactly where the local is true
+  abbrev pub IsUntied : FlowState → ℕ → Type 0
+  IsUntied g f = (l : ℕ) (t : TyId) (q : Path) → local_type x.fun l ≡ Some t → IsLeaf x.core.types t q → g.init l q ≢ IsSetWith f
 
   -- the map of what stands before the first index
   abbrev pub still_map : FlowState → Place → InitMap
@@ -224,12 +269,14 @@ module _ (x : Context) where
     pub free : MayWriteAt g p.local (still p.steps)
     pub entered : IsEntered g p (is_exact p.steps)
     pub over : NoArray g p (is_exact p.steps)
+    pub untied : IsUntied g p.local
 
   -- what a `Drop` gives up: no element, nor part of one
   pub record GiveOk (g : FlowState) (p : Place) : Type 0 where
     pub live : IsLive g p.local
     pub exact : is_exact p.steps ≡ true
     pub free : MayWriteAt g p.local (still p.steps)
+    pub untied : IsUntied g p.local
 
   -- what is moved is set too
   pub record TakeOk (g : FlowState) (p : Place) : Type 0 where
@@ -239,17 +286,45 @@ module _ (x : Context) where
   abbrev pub given : FlowState → Place → FlowState
   given g p = with_init g p.local (still p.steps) none_set
 
+  abbrev pub stored_as : InitMap → FlowState → Place → Bool → FlowState
+  stored_as c g p true = with_init g p.local (still p.steps) c
+  stored_as c g p false = g
+
   abbrev pub stored_if : FlowState → Place → Bool → FlowState
-  stored_if g p true = with_init g p.local (still p.steps) all_set
-  stored_if g p false = g
+  stored_if = stored_as all_set
 
   abbrev pub stored : FlowState → Place → FlowState
   stored g p = stored_if g p (is_exact p.steps)
 
-  -- The one flow state leads to the other: they tell the same of each local, and what is open in the first is open in the second.
+  abbrev pub form_or_unknown : Option TyId → Form
+  form_or_unknown None = Unknown
+  form_or_unknown (Some t) = form x.core.types t
+
+  abbrev pub set_to : FlowState → Place → ℤ → FlowState
+  set_to g p n = stored_as (λ q. constant_state (form_or_unknown (place_type x.core.types x.fun p)) n) g p (is_exact p.steps)
+
+  abbrev pub where_is : FlowState → ℕ → Bool → FlowState
+  where_is g f b = record g { init = set_local (λ l q. resolved f b (g.init l q)) f (λ q. IsKnown b) }
+
+  abbrev pub IsFlag : ℕ → Type 0
+  IsFlag f = (t : TyId) × (local_type x.fun f ≡ Some t) × (form x.core.types t ≡ Flags)
+
+  abbrev pub Knows : FlowState → ℕ → Bool → Type 0
+  Knows g f b = IsFlag f × (g.init f [] ≡ IsKnown b)
+
+  -- A part in the first state may be said to be in the second. What is set becomes doubtful in a checked core only where its local is
+  -- known to be true, and what is unset only where that is known to be false.
+  abbrev pub Becomes : FlowState → InitState → InitState → Type 0
+  Becomes g s IsSet = IsSetSo s
+  Becomes g s IsUnset = s ≡ IsUnset
+  Becomes g s (IsKnown b) = s ≡ IsKnown b
+  Becomes g s IsDoubtful = (s ≡ IsDoubtful) ⊎ (x.stage ≡ Deinitialises)
+  Becomes g s (IsSetWith f) = (s ≡ IsSetWith f) ⊎ ((Knows g f true × IsSetSo s) ⊎ (Knows g f false × (s ≡ IsUnset)))
+
+  -- The one flow state leads to the other: what they tell of each local agrees, and what is open in the first is open in the second.
   pub record FlowsInto (g d : FlowState) : Type 0 where
     pub status : (l : ℕ) → g.status l ≡ d.status l
-    pub init : (l : ℕ) (t : TyId) (q : Path) → local_type x.fun l ≡ Some t → IsLeaf x.core.types t q → g.init l q ≡ d.init l q
+    pub init : (l : ℕ) (t : TyId) (q : Path) → local_type x.fun l ≡ Some t → IsLeaf x.core.types t q → Becomes g (g.init l q) (d.init l q)
     pub open_places : (e : OpenPlace) → Among e g.open_places → Among e d.open_places
     pub yielded : g.yielded ≡ d.yielded
 
@@ -286,6 +361,7 @@ module _ (x : Context) where
     pub own : g.status to ≡ Own
     pub unset : IsLocalUnset g to
     pub shut : IsShutAt g to
+    pub untied : IsUntied g to
 
   pub record LendOk (g : FlowState) (to : ℕ) (p : Place) (w : Way) : Type 0 where
     pub free : IsFree g to
@@ -316,9 +392,11 @@ module _ (x : Context) where
   abbrev pub Closes : FlowState → ℕ → Loan → FlowState → Type 0
   Closes g l o d = IsShutAt g l × ComesBack g l o.way o.exact
       × ((h : FlowState) × Without (InLocal l) (with_status (come_back g l o o.way o.exact) l Own none_set) h × FlowsInto h d)
+      × IsUntied g l × IsUntied g o.base
 
   abbrev pub Slides : FlowState → ℕ → FlowState → Type 0
   Slides g l d = IsShutAt g l × IsLocalSet g l × ((h : FlowState) × Without (InSubscript l) (with_status g l Own none_set) h × FlowsInto h d)
+      × IsUntied g l
 
   -- CALLS
 
@@ -326,7 +404,8 @@ module _ (x : Context) where
   pub record HandOk (g : FlowState) (terms : Terms) (l : ℕ) : Type 0 where
     pub status : IsOpen (g.status l) terms.way
     pub shut : IsShutAt g l
-    pub init : (t : TyId) → local_type x.fun l ≡ Some t → (q : Path) → IsLeaf x.core.types t q → g.init l q ≡ terms.before q
+    pub init : (t : TyId) → local_type x.fun l ≡ Some t → (q : Path) → IsLeaf x.core.types t q → Counts (terms.before q) (g.init l q)
+    pub untied : IsUntied g l
 
   abbrev pub HandsOk : FlowState → Signature → ℕ → List ℕ → Type 0
   HandsOk g s i [] = Unit {0}
@@ -390,7 +469,8 @@ module _ (x : Context) where
     pub yielded : g.yielded ≡ is_ramp x.fun
     pub open_places : (e : OpenPlace) → Among e g.open_places → ⊥
     pub closed : (l : ℕ) → length (lent_types x.fun) ≤ l → g.status l ≡ Own
-    pub lent : (l : ℕ) (t : TyId) → slice_get (lent_types x.fun) l ≡ Some t → (q : Path) → IsLeaf x.core.types t q → g.init l q ≡ (x.signature.lent l).after q
+    pub lent : (l : ℕ) (t : TyId) → slice_get (lent_types x.fun) l ≡ Some t → (q : Path) → IsLeaf x.core.types t q
+        → Counts ((x.signature.lent l).after q) (g.init l q)
     pub left : (l : ℕ) → length (lent_types x.fun) ≤ l → IsLeft x.stage g l
 
   -- STATEMENTS
@@ -450,7 +530,7 @@ module _ (x : Context) where
 
     pub Transfers : Around → FlowState → Stmt → FlowState → Type 0
     Transfers a g (Built operator to from spans) d = TransfersBuilt operator to from g d
-    Transfers a g (Set to n) d = Stores g (Some to) d
+    Transfers a g (Set to n) d = StoreOk g to × FlowsInto (set_to g to n) d
     Transfers a g (Lend to place w) d = LendOk g to place (way w) × FlowsInto (opened g to place (way w)) d
     Transfers a g (Close l) d = (o : Loan) × (g.status l ≡ Opened o) × Closes g l o d
     Transfers a g (Move to from) d = TakeOk g from × Stores (given g from) (Some to) d
@@ -461,11 +541,12 @@ module _ (x : Context) where
     Transfers a g (Slide l) d = (w : Way) × (g.status l ≡ Bound w) × Slides g l d
     Transfers a g (Yield l) d =
         (is_ramp x.fun ≡ true) × (g.yielded ≡ false) × IsOpen (g.status l) x.signature.yields × IsShutAt g l × IsLocalSet g l
-        × FlowsInto (record g { yielded = true }) d
-    Transfers a g (If on p q) d = MayReadAt g on [] × (g.init on [] ≡ IsSet) × TransfersAll a g p d × TransfersAll a g q d × IsLive g on
+        × FlowsInto (record (with_init g l [] all_set) { yielded = true }) d × IsUntied g l
+    Transfers a g (If on p q) d =
+        MayReadAt g on [] × IsSetSo (g.init on []) × TransfersAll a (where_is g on true) p d × TransfersAll a (where_is g on false) q d × IsLive g on
     Transfers a g (While head on body) d =
-        (h e : FlowState) × FlowsInto g h × TransfersAll NoLoop h head e × MayReadAt e on [] × (e.init on [] ≡ IsSet) × TransfersAll (InLoop d h) e body h
-        × FlowsInto e d × IsLive e on
+        (h e : FlowState) × FlowsInto g h × TransfersAll NoLoop h head e × MayReadAt e on [] × IsSetSo (e.init on [])
+        × TransfersAll (InLoop d h) (where_is e on true) body h × FlowsInto (where_is e on false) d × IsLive e on
     Transfers a g Break d = Breaks a g
     Transfers a g Continue d = Continues a g
     Transfers a g (Leave from) d = TakeOk g from × IsLast (given g from)

@@ -10,9 +10,10 @@ use Rattle.hy_core.specs.Control.{Form, Numbers, Flags, Tuples, Products, Arrays
 use Rattle.hy_core.specs.Statements.{way}
 use Rattle.hy_core.specs.Typing.{place_type, still, still_type}
 use Rattle.hy_core.specs.Shaped.{filled_by}
-use Rattle.hy_core.specs.Flow.{InitState, IsSet, IsUnset, InitMap, all_set, none_set, Holder, InLocal, InSubscript, OpenPlace, Loan, Status, Own, Param}
+use Rattle.hy_core.specs.Flow.{InitState, IsSet, IsUnset, IsKnown, IsDoubtful, IsSetWith, InitMap, all_set}
+use Rattle.hy_core.specs.Flow.{none_set, Holder, InLocal, InSubscript, OpenPlace, Loan, Status, Own, Param}
 use Rattle.hy_core.specs.Flow.{Opened, Bound, FlowState, Terms, Signature, Context, with_status, way_of, is_exact, still_map, given, stored, opened}
-use Rattle.hy_core.specs.Flow.{come_back, come_from, held_by, all_given, first, context_of, signatures_of}
+use Rattle.hy_core.specs.Flow.{come_back, come_from, held_by, all_given, first, context_of, signatures_of, set_to, where_is, form_or_unknown, with_init}
 
 -- TESTS
 
@@ -49,11 +50,52 @@ are_apart (PartAt i ∷ p) (ElementAt j ∷ q) = false
 are_apart (ElementAt i ∷ p) (PartAt j ∷ q) = false
 are_apart (ElementAt i ∷ p) (ElementAt j ∷ q) = false
 
-abbrev pub init_eq : InitState → InitState → Bool
-init_eq IsSet IsSet = true
-init_eq IsSet IsUnset = false
-init_eq IsUnset IsSet = false
-init_eq IsUnset IsUnset = true
+abbrev pub is_set_so : InitState → Bool
+is_set_so IsSet = true
+is_set_so IsUnset = false
+is_set_so (IsKnown b) = true
+is_set_so IsDoubtful = false
+is_set_so (IsSetWith f) = false
+
+abbrev pub is_unset : InitState → Bool
+is_unset IsSet = false
+is_unset IsUnset = true
+is_unset (IsKnown b) = false
+is_unset IsDoubtful = false
+is_unset (IsSetWith f) = false
+
+abbrev pub is_known : Bool → InitState → Bool
+is_known b IsSet = false
+is_known b IsUnset = false
+is_known b (IsKnown c) = bool_eq c b
+is_known b IsDoubtful = false
+is_known b (IsSetWith f) = false
+
+abbrev pub is_doubtful : InitState → Bool
+is_doubtful IsSet = false
+is_doubtful IsUnset = false
+is_doubtful (IsKnown b) = false
+is_doubtful IsDoubtful = true
+is_doubtful (IsSetWith f) = false
+
+abbrev pub is_set_with : ℕ → InitState → Bool
+is_set_with f IsSet = false
+is_set_with f IsUnset = false
+is_set_with f (IsKnown b) = false
+is_set_with f IsDoubtful = false
+is_set_with f (IsSetWith k) = k == f
+
+-- what counts as the state that is wanted
+abbrev pub counts : (wanted : InitState) → InitState → Bool
+counts IsSet s = is_set_so s
+counts IsUnset s = is_unset s
+counts (IsKnown b) s = is_known b s
+counts IsDoubtful s = false
+counts (IsSetWith f) s = false
+
+abbrev pub is_core : Stage → Bool
+is_core Deinitialises = true
+is_core GivesUp = false
 
 abbrev pub holder_eq : Holder → Holder → Bool
 holder_eq (InLocal l) (InLocal k) = l == k
@@ -125,7 +167,7 @@ depth_of types = suc (length types.types)
 
 -- each part of the type stands so
 abbrev pub each_is : Table → TyId → InitMap → InitState → Bool
-each_is types t c s = every_leaf types (depth_of types) t (λ a q. init_eq (c q) s)
+each_is types t c s = every_leaf types (depth_of types) t (λ a q. counts s (c q))
 
 abbrev pub is_array : Form → Bool
 is_array (Numbers t) = false
@@ -134,6 +176,14 @@ is_array (Tuples parts) = false
 is_array (Products d parts) = false
 is_array (Arrays t) = true
 is_array Unknown = false
+
+abbrev pub is_flags : Form → Bool
+is_flags (Numbers t) = false
+is_flags Flags = true
+is_flags (Tuples parts) = false
+is_flags (Products d parts) = false
+is_flags (Arrays t) = false
+is_flags Unknown = false
 
 abbrev pub each_array : Table → TyId → (Path → Bool) → Bool
 each_array types t f = every_leaf types (depth_of types) t (λ a q. not (is_array a) || f q)
@@ -213,7 +263,7 @@ module _ (x : Context) where
   abbrev pub indexes_ok : FlowState → List Step → Bool
   indexes_ok g [] = true
   indexes_ok g (Part i ∷ steps) = indexes_ok g steps
-  indexes_ok g (Index l s ∷ steps) = may_read g l [] && (init_eq (g.init l []) IsSet && indexes_ok g steps)
+  indexes_ok g (Index l s ∷ steps) = may_read g l [] && (is_set_so (g.init l []) && indexes_ok g steps)
 
   abbrev pub is_live : FlowState → ℕ → Bool
   is_live g l = not (is_own (g.status l)) || not (member l (filled_by x.fun.body))
@@ -224,11 +274,16 @@ module _ (x : Context) where
   abbrev pub local_is : FlowState → ℕ → InitState → Bool
   local_is g l s = if_some (local_type x.fun l) (λ t. each_is types t (g.init l) s)
 
+  -- no doubtful part is set exactly where the local is true
+  abbrev pub untied : FlowState → ℕ → Bool
+  untied g f =
+      each_local locals (λ l. if_some (local_type x.fun l) (λ t. every_leaf types (depth_of types) t (λ a q. not (is_set_with f (g.init l q)))))
+
   abbrev pub entered : FlowState → Place → Bool
   entered g p = is_exact p.steps || set_place g p
 
   abbrev pub no_array : FlowState → Place → Bool → Bool
-  no_array g p true = if_some (place_type types x.fun p) (λ t. each_array types t (λ q. init_eq (still_map x g p q) IsUnset))
+  no_array g p true = if_some (place_type types x.fun p) (λ t. each_array types t (λ q. is_unset (still_map x g p q)))
   no_array g p false = if_some (place_type types x.fun p) (λ t. each_array types t (λ q. false))
 
   abbrev pub read_ok : FlowState → Place → Bool
@@ -238,22 +293,52 @@ module _ (x : Context) where
   change_ok g p = is_live g p.local && (indexes_ok g p.steps && (may_write g p.local (still p.steps) && set_place g p))
 
   abbrev pub store_ok : FlowState → Place → Bool
-  store_ok g p = is_live g p.local && (indexes_ok g p.steps && (may_write g p.local (still p.steps) && (entered g p && no_array g p (is_exact p.steps))))
+  store_ok g p = is_live g p.local && (indexes_ok g p.steps && (may_write g p.local (still p.steps)
+      && (entered g p && (no_array g p (is_exact p.steps) && untied g p.local))))
 
   abbrev pub give_ok : FlowState → Place → Bool
-  give_ok g p = is_live g p.local && (is_exact p.steps && may_write g p.local (still p.steps))
+  give_ok g p = is_live g p.local && (is_exact p.steps && (may_write g p.local (still p.steps) && untied g p.local))
 
   abbrev pub take_ok : FlowState → Place → Bool
   take_ok g p = give_ok g p && set_place g p
 
   -- ONE FLOW STATE INTO ANOTHER
 
-  -- they say the same of each local, and what is open in the first is open in the second
+  abbrev pub is_flag : ℕ → Bool
+  is_flag f = is_flags (form_or_unknown x (local_type x.fun f))
+
+  abbrev pub knows : FlowState → ℕ → Bool → Bool
+  knows g f b = is_flag f && is_known b (g.init f [])
+
+  -- a part in the first state may be said to be in the second
+  abbrev pub becomes : FlowState → InitState → InitState → Bool
+  becomes g s IsSet = is_set_so s
+  becomes g s IsUnset = is_unset s
+  becomes g s (IsKnown b) = is_known b s
+  becomes g s IsDoubtful = is_doubtful s || is_core x.stage
+  becomes g s (IsSetWith f) = is_set_with f s || (knows g f true && is_set_so s || knows g f false && is_unset s)
+
+  -- what they say of each local agrees, and what is open in the first is open in the second
   abbrev pub flows_into : FlowState → FlowState → Bool
   flows_into g d =
       each_local locals (λ l. status_eq (g.status l) (d.status l) && if_some (local_type x.fun l)
-      (λ t. every_leaf types (depth_of types) t (λ a q. init_eq (g.init l q) (d.init l q))))
+      (λ t. every_leaf types (depth_of types) t (λ a q. becomes g (g.init l q) (d.init l q))))
       && (every (λ e. not (every (λ f. not (open_place_eq e f)) d.open_places)) g.open_places && bool_eq g.yielded d.yielded)
+
+  -- the local of that number or below that passes a test
+  abbrev pub pick : ℕ → (ℕ → Bool) → ℕ
+  pick zero f = zero
+  pick (suc n) f = if f n then n else pick n f
+
+  -- The state of a part where two paths meet, in each of which its state is known: what both may be said to be, if there is such. In
+  -- a checked core it is doubtful only with a local that is known, in each, to say whether it is set.
+  abbrev pub joined_state : (g d : FlowState) → InitState → InitState → InitState
+  joined_state g d s t = if becomes d t s then s else if becomes g s t then t else if is_set_so s && is_set_so t then IsSet else if is_core x.stage
+      then IsDoubtful else IsSetWith (pick locals (λ f. becomes g s (IsSetWith f) && becomes d t (IsSetWith f)))
+
+  -- the first, with what both may be said to be
+  abbrev pub joined : FlowState → FlowState → FlowState
+  joined g d = record g { init = λ l q. joined_state g d (g.init l q) (d.init l q) }
 
   abbrev pub flows_in : Option FlowState → FlowState → Bool
   flows_in None d = true
@@ -263,7 +348,7 @@ module _ (x : Context) where
   abbrev pub meet : Option FlowState → Option FlowState → Option (Option FlowState)
   meet None b = Some b
   meet (Some a) None = Some (Some a)
-  meet (Some a) (Some b) = if flows_into b a then Some (Some a) else None
+  meet (Some a) (Some b) = let d = joined a b in if flows_into a d && flows_into b d then Some (Some d) else None
 
   abbrev pub meet_exits : (next : Option FlowState) → Exits → Exits → Option Exits
   meet_exits next a b =
@@ -283,7 +368,7 @@ module _ (x : Context) where
   computes g (Some to) from = if every (read_ok g) from then stores g (Some to) else None
 
   abbrev pub is_free : FlowState → ℕ → Bool
-  is_free g to = is_own (g.status to) && (local_is g to IsUnset && (is_shut g to && nat_lt to locals))
+  is_free g to = is_own (g.status to) && (local_is g to IsUnset && (is_shut g to && (nat_lt to locals && untied g to)))
 
   abbrev pub lendable : FlowState → Place → Way → Bool
   lendable g p Reads = set_place g p
@@ -304,7 +389,7 @@ module _ (x : Context) where
   abbrev pub closes : FlowState → ℕ → Status → Option Exits
   closes g l Own = None
   closes g l (Param w) = None
-  closes g l (Opened o) = when (is_shut g l && comes_back g l o.way o.exact) (closed g l o)
+  closes g l (Opened o) = when (is_shut g l && (comes_back g l o.way o.exact && (untied g l && untied g o.base))) (closed g l o)
   closes g l (Bound w) = None
 
   abbrev pub slid : FlowState → ℕ → FlowState
@@ -314,12 +399,12 @@ module _ (x : Context) where
   slides g l Own = None
   slides g l (Param w) = None
   slides g l (Opened o) = None
-  slides g l (Bound w) = when (is_shut g l && local_is g l IsSet) (slid g l)
+  slides g l (Bound w) = when (is_shut g l && (local_is g l IsSet && untied g l)) (slid g l)
 
   abbrev pub hand_ok : FlowState → Terms → ℕ → Bool
   hand_ok g terms l =
       is_open (g.status l) terms.way &&
-      (is_shut g l && if_some (local_type x.fun l) (λ t. every_leaf types (depth_of types) t (λ a q. init_eq (g.init l q) (terms.before q))))
+      (is_shut g l && (untied g l && if_some (local_type x.fun l) (λ t. every_leaf types (depth_of types) t (λ a q. counts (terms.before q) (g.init l q)))))
 
   abbrev pub hands_ok : FlowState → Signature → ℕ → List ℕ → Bool
   hands_ok g s i [] = true
@@ -351,7 +436,7 @@ module _ (x : Context) where
   copied GivesUp p = if_some (place_type types x.fun p) (λ t. each_array types t (λ q. false))
 
   abbrev pub left : Stage → FlowState → ℕ → Bool
-  left Deinitialises g l = if_some (local_type x.fun l) (λ t. each_array types t (λ q. init_eq (g.init l q) IsUnset))
+  left Deinitialises g l = if_some (local_type x.fun l) (λ t. each_array types t (λ q. is_unset (g.init l q)))
   left GivesUp g l = local_is g l IsUnset
 
   abbrev pub is_last : FlowState → Bool
@@ -359,7 +444,7 @@ module _ (x : Context) where
       bool_eq g.yielded (is_ramp x.fun)
       && (every (λ e. false) g.open_places
       && each_local locals (λ l. if nat_lt l (length (lent_types x.fun))
-      then if_some (local_type x.fun l) (λ t. every_leaf types (depth_of types) t (λ a q. init_eq (g.init l q) ((x.signature.lent l).after q)))
+      then if_some (local_type x.fun l) (λ t. every_leaf types (depth_of types) t (λ a q. counts ((x.signature.lent l).after q) (g.init l q)))
       else is_own (g.status l) && left x.stage g l))
 
   abbrev pub built_flow : Operator → Option Place → List Place → FlowState → Option Exits
@@ -393,22 +478,42 @@ module _ (x : Context) where
 
   -- the local of a condition
   abbrev pub condition_ok : FlowState → ℕ → Bool
-  condition_ok g on = is_live g on && (may_read g on [] && init_eq (g.init on []) IsSet)
+  condition_ok g on = is_live g on && (may_read g on [] && is_set_so (g.init on []))
 
   abbrev pub follows : Option FlowState → Exits → Stmts → (FlowState → Option Exits) → Option Exits
   follows None e ss go = ends ss e
   follows (Some h) e ss go = and_then (go h) (λ f. meet_exits f.next e f)
 
-  -- A loop begins in the state before it. Its pass comes back to that, and it is left in the state after its head.
+  -- A loop begins in a state to which its pass comes back. It is left in the state after its head, where its local is false, or from
+  -- within.
   abbrev pub passes : FlowState → FlowState → Exits → Option Exits
-  passes g e b = if flows_in b.next g && (flows_in b.again g && flows_in b.breaks e) then Some (goes_to e) else None
+  passes g e b = if flows_in b.next g && flows_in b.again g
+      then and_then (meet (Some e) b.breaks) (λ out. Some (record { next = out; breaks = None; again = None })) else None
 
   abbrev pub loops : FlowState → ℕ → Option FlowState → (FlowState → Option Exits) → Option Exits
   loops g on None go = None
-  loops g on (Some e) go = if condition_ok e on then and_then (go e) (passes g e) else None
+  loops g on (Some e) go = if condition_ok e on then and_then (go (where_is x e on true)) (passes g (where_is x e on false)) else None
 
   abbrev pub at_head : FlowState → ℕ → Exits → (FlowState → Option Exits) → Option Exits
   at_head g on h go = if is_none h.breaks && is_none h.again then loops g on h.next go else None
+
+  abbrev pub loop_from : (head body : FlowState → Option Exits) → ℕ → FlowState → Option Exits
+  loop_from head body on g = and_then (head g) (λ h. at_head g on h body)
+
+  -- the state where a loop begins, with what both it and the state after a pass may be said to be
+  abbrev pub with_end : FlowState → Option FlowState → FlowState
+  with_end g None = g
+  with_end g (Some d) = joined g d
+
+  abbrev pub after_pass : (head body : FlowState → Option Exits) → ℕ → FlowState → Option FlowState
+  after_pass head body on g =
+      and_then (head g) (λ h. and_then h.next (λ e. and_then (body (where_is x e on true)) (λ b. Some (with_end (with_end g b.next) b.again))))
+
+  -- a loop that begins in the state before it, or in that state with its own end
+  abbrev pub or_from : Option Exits → FlowState → Option FlowState → (FlowState → Option Exits) → Option Exits
+  or_from (Some e) g d go = Some e
+  or_from None g None go = None
+  or_from None g (Some d) go = let h : FlowState = record g { init = d.init } in if flows_into g h then go h else None
 
   abbrev mutual
     pub flow_all : Stmts → FlowState → Option Exits
@@ -417,7 +522,7 @@ module _ (x : Context) where
 
     pub flow_one : Stmt → FlowState → Option Exits
     flow_one (Built operator to from spans) g = built_flow operator to from g
-    flow_one (Set to n) g = stores g (Some to)
+    flow_one (Set to n) g = when (store_ok g to) (set_to x g to n)
     flow_one (Lend to place w) g = when (lend_ok g to place (way w)) (opened x g to place (way w))
     flow_one (Close l) g = closes g l (g.status l)
     flow_one (Move to from) g = if take_ok g from then stores (given x g from) (Some to) else None
@@ -427,10 +532,13 @@ module _ (x : Context) where
     flow_one (Project n lent owned to) g = projects g n lent owned to
     flow_one (Slide l) g = slides g l (g.status l)
     flow_one (Yield l) g =
-        when (is_ramp x.fun && (not g.yielded && (is_open (g.status l) x.signature.yields && (is_shut g l && local_is g l IsSet))))
-        (record g { yielded = true })
-    flow_one (If on a b) g = if condition_ok g on then and_then (flow_all a g) (λ e. and_then (flow_all b g) (either e)) else None
-    flow_one (While head on body) g = and_then (flow_all head g) (λ h. at_head g on h (flow_all body))
+        when (is_ramp x.fun && (not g.yielded && (is_open (g.status l) x.signature.yields && (is_shut g l && (local_is g l IsSet && untied g l)))))
+        (record (with_init g l [] all_set) { yielded = true })
+    flow_one (If on a b) g =
+        if condition_ok g on then and_then (flow_all a (where_is x g on true)) (λ e. and_then (flow_all b (where_is x g on false)) (either e)) else None
+    flow_one (While head on body) g =
+        or_from (loop_from (flow_all head) (flow_all body) on g) g (after_pass (flow_all head) (flow_all body) on g)
+        (loop_from (flow_all head) (flow_all body) on)
     flow_one Break g = Some (record { next = None; breaks = Some g; again = None })
     flow_one Continue g = Some (record { next = None; breaks = None; again = Some g })
     flow_one (Leave from) g = if take_ok g from && is_last (given x g from) then Some (record { next = None; breaks = None; again = None }) else None

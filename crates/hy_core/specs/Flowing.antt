@@ -12,8 +12,11 @@ use Rattle.hy_core.specs.Differences as wild
 abbrev pub Flows : Stage → Core → Type 0
 Flows stage core = has_flow stage core ≡ true
 
+abbrev pub NoFlow : Stage → Core → Type 0
+NoFlow stage core = has_flow stage core ≡ false
+
 abbrev pub FlowsNot : Core → Type 0
-FlowsNot core = has_flow GivesUp core ≡ false
+FlowsNot = NoFlow GivesUp
 
 abbrev pub Operates : ℤ → ℤ → Type 0
 Operates a b = Flows GivesUp (calm.operation Add a b) × Flows GivesUp (calm.operation Sub a b) × Flows GivesUp (calm.operation Mul a b)
@@ -37,6 +40,10 @@ pub record CalmFlow : Type 0 where
   pub in_part : Flows Deinitialises calm.in_part
   pub rows : Flows Deinitialises calm.rows_of_numbers
   pub tree : Flows Deinitialises calm.a_tree
+  pub moved : Flows Deinitialises calm.moved_if_one
+  pub moved_checked : Flows GivesUp calm.moved_if_one_checked
+  pub set_in_one : Flows Deinitialises calm.set_if_one
+  pub set_in_one_checked : Flows GivesUp calm.set_if_one_checked
   pub loop : Flows GivesUp calm.a_loop
   pub left : Flows GivesUp calm.leaves_a_loop
   pub index : Flows Deinitialises calm.reads_an_index
@@ -171,6 +178,66 @@ set_in_loop = alone (While (stmts (Set (of 9) (pos 0) ∷ [])) 9 (stmts (Drop (o
 -- two branches leave a local in two states
 abbrev pub set_in_branch : Core
 set_in_branch = alone (Set (of 9) (pos 1) ∷ If 9 (stmts (int 1 1 ∷ [])) Done ∷ Drop (of 9) ∷ leave 0)
+
+-- what is set on one way only: local 1, where 9 is true
+abbrev pub on_one_way : (set unset : List Stmt) → List Stmt → Core
+on_one_way u v ss = alone (Set (of 9) (pos 1) ∷ If 9 (stmts (int 1 1 ∷ u)) (stmts v) ∷ ss)
+
+abbrev pub read_doubtful : Core
+read_doubtful = on_one_way [] [] (print (of 1) ∷ leave 0)
+
+abbrev pub moved_doubtful : Core
+moved_doubtful = on_one_way [] [] (Move (of 2) (of 1) ∷ leave 0)
+
+abbrev pub lent_doubtful : Core
+lent_doubtful = on_one_way [] [] (Lend 2 (of 1) false ∷ Close 2 ∷ leave 0)
+
+-- its local is true exactly where it is set
+abbrev pub dropped_where_set : Core
+dropped_where_set = on_one_way [] [] (If 9 (stmts (Drop (of 1) ∷ [])) Done ∷ Drop (of 9) ∷ leave 0)
+
+abbrev pub dropped_where_unset : Core
+dropped_where_unset = on_one_way [] [] (If 9 Done (stmts (Drop (of 1) ∷ [])) ∷ Drop (of 9) ∷ leave 0)
+
+-- the local is false where it is set
+abbrev pub told_wrongly : Core
+told_wrongly = on_one_way (Set (of 9) (pos 0) ∷ []) (Set (of 9) (pos 1) ∷ []) (If 9 (stmts (Drop (of 1) ∷ [])) Done ∷ Drop (of 9) ∷ leave 0)
+
+-- the local changes while the place is doubtful
+abbrev pub told_no_more : Core
+told_no_more = on_one_way [] [] (Set (of 9) (pos 1) ∷ If 9 (stmts (Drop (of 1) ∷ [])) Done ∷ Drop (of 9) ∷ leave 0)
+
+-- a doubtful array is stored over
+abbrev pub doubtful_over : Core
+doubtful_over = alone (Set (of 9) (pos 1) ∷ If 9 (stmts (tell NewArray 7 [] ∷ [])) Done ∷ tell NewArray 7 [] ∷ Drop (of 7) ∷ leave 0)
+
+-- and is given up first
+abbrev pub doubtful_dropped : Core
+doubtful_dropped = alone (Set (of 9) (pos 1) ∷ If 9 (stmts (tell NewArray 7 [] ∷ [])) Done ∷ Drop (of 7) ∷ tell NewArray 7 [] ∷ Drop (of 7) ∷ leave 0)
+
+-- a doubtful array is left at the end
+abbrev pub doubtful_left : Core
+doubtful_left = alone (Set (of 9) (pos 1) ∷ If 9 (stmts (tell NewArray 7 [] ∷ [])) Done ∷ leave 0)
+
+-- set in some passes of a loop, and given up in others
+abbrev pub set_in_passes : Core
+set_in_passes = alone (Set (of 9) (pos 1) ∷ While Done 9 (stmts (tell NewArray 7 [] ∷ Drop (of 7) ∷ If 9 (stmts (Drop (of 8) ∷ tell NewArray 8 [] ∷ [])) Done
+    ∷ Set (of 9) (pos 0) ∷ [])) ∷ Drop (of 8) ∷ Drop (of 9) ∷ leave 0)
+
+pub record DoubtfulFlow : Type 0 where
+  pub read : NoFlow Deinitialises read_doubtful
+  pub moved : NoFlow Deinitialises moved_doubtful
+  pub lent : NoFlow Deinitialises lent_doubtful
+  pub read_checked : FlowsNot read_doubtful
+  pub where_set : Flows GivesUp dropped_where_set
+  pub where_unset : FlowsNot dropped_where_unset
+  pub wrongly : FlowsNot told_wrongly
+  pub no_more : FlowsNot told_no_more
+  pub over : NoFlow Deinitialises doubtful_over
+  pub dropped : Flows Deinitialises doubtful_dropped
+  pub left : NoFlow Deinitialises doubtful_left
+  pub passes : Flows Deinitialises set_in_passes
+  pub branch : Flows Deinitialises set_in_branch
 
 pub record FlawedFlow : Type 0 where
   pub elements : FlowsNot two_elements

@@ -10,7 +10,7 @@ use Rattle.hy_types.specs.declared.kinds.TyId.{TyId}
 use Rattle.hy_core.specs.Plain.{Step, Part, Index, Place, Operator, Add, Sub, Mul, Div, Rem, Neg, Convert, Eq, Lt, Le, Not, NewArray, Push, Pop, Swap}
 use Rattle.hy_core.specs.Plain.{Count, FreeArray, Print, Read, Check, Stmts, Done, Then, Stmt, Built, Set, Lend, Close, Move, Copy, Drop, Call, Project}
 use Rattle.hy_core.specs.Plain.{Slide, Yield, If, While, Break, Continue, Leave, Fun, lent_types, is_ramp, Deinit, Core}
-use Rattle.hy_core.specs.Values.{Val, Unset, Number, Truth, Tuple, Product, Array, Vals, No, And, PartAt, ElementAt, many, nth, with_nth, all_whole}
+use Rattle.hy_core.specs.Values.{Val, Unset, Number, Truth, Tuple, Product, Array, Vals, No, And, PartAt, ElementAt, many, nth, with_nth, all_whole, is_blank}
 use Rattle.hy_core.specs.Memory.{Key, Spot, whole, below, Way, Reads, Writes}
 use Rattle.hy_core.specs.Operators.{operated, negated, converted, ordered, same_flags, equal, line_of, index_in, at_end, popped}
 use Rattle.hy_base.specs.Lines.{Got, read_line}
@@ -282,16 +282,27 @@ abbrev pub doing : List Deed → List Task → List Task
 doing [] ts = ts
 doing (d ∷ ds) ts = Do d ∷ doing ds ts
 
--- the first activation of a body of a deinitialiser, which is lent the place
-abbrev pub deinit_body : Control → Spot → Option Fun → Interaction Control
-deinit_body c s f =
+-- a product of that declaration that is set at every depth
+abbrev pub is_whole_product : (declaration : ℕ) → Val → Bool
+is_whole_product d Unset = false
+is_whole_product d (Number t n) = false
+is_whole_product d (Truth b) = false
+is_whole_product d (Tuple vs) = false
+is_whole_product d (Product e vs) = (e == d) && all_whole vs
+is_whole_product d (Array vs) = false
+
+-- The first activation of a body of a deinitialiser, which is lent the place. Where no whole product stands there, no body runs.
+abbrev pub deinit_body : Control → (declaration : ℕ) → Spot → Option Fun → Interaction Control
+deinit_body c d s f =
     with_some c f
-    (λ f. turn (count_one c) c.turns (λ c. Perform (effect.Lend (record { act = c.started; local = zero }) s Writes) (Return (begun c f Nowhere))))
+    (λ f. turn (count_one c) c.turns (λ c. Fetch s (λ v. if is_whole_product d v
+    then Perform (effect.Lend (record { act = c.started; local = zero }) s Writes) (Return (begun c f Nowhere))
+    else Return c)))
 
 -- Each of these takes a turn. A body counts one opened before its turn and an array too, an element after it.
 abbrev pub does_deed : Setting → Control → Work → Deed → List Task → Interaction Control
 does_deed p c w (Body d s) ts =
-    with_some c (deinit_of p.core.deinits d) (λ n. deinit_body (with_work c (Drops (PartsOf s ∷ ts) w)) s (slice_get p.core.funs n))
+    with_some c (deinit_of p.core.deinits d) (λ n. deinit_body (with_work c (Drops (PartsOf s ∷ ts) w)) d s (slice_get p.core.funs n))
 does_deed p c w (EachOf n s) ts = turn (count_one c) c.turns (λ c. Return (with_work c (Drops (elements s n ts) w)))
 does_deed p c w (Element s) ts = turn c c.turns (λ c. Return (with_work (count_one c) (Drops (Value s ∷ ts) w)))
 
@@ -300,13 +311,18 @@ abbrev pub first_deed : Setting → Control → Work → List Deed → List Task
 first_deed p c w [] ts t = t
 first_deed p c w (d ∷ ds) ts t = does_deed p c w d (doing ds ts)
 
+-- leaves a place unset, where something is set in it
+abbrev pub clears : Spot → (blank : Bool) → Interaction Control → Interaction Control
+clears s true t = t
+clears s false t = Perform (effect.Clear s) t
+
 -- goes on with a deinitialisation up to its next turn
 abbrev pub does_tasks : Setting → Control → Work → List Task → Interaction Control
 does_tasks p c w [] = Return (with_work c w)
 does_tasks p c w (Do d ∷ ts) = does_deed p c w d ts
 does_tasks p c w (Value s ∷ ts) = Fetch s (λ v. first_deed p c w (deeds p.core.deinits s v) ts (does_tasks p c w ts))
 does_tasks p c w (PartsOf s ∷ ts) = Fetch s (λ v. first_deed p c w (part_deeds p.core.deinits s v) ts (does_tasks p c w ts))
-does_tasks p c w (Unsets s ∷ ts) = Perform (effect.Clear s) (does_tasks p c w ts)
+does_tasks p c w (Unsets s ∷ ts) = Fetch s (λ v. clears s (is_blank v) (does_tasks p c w ts))
 
 abbrev pub drop : Setting → Stage → Control → Place → Interaction Control
 drop p Deinitialises c place = spot p ToDrop c place (λ c s t. Return (with_work c (Drops (Value s ∷ Unsets s ∷ []) c.now.work)))

@@ -1,15 +1,16 @@
--- What holds in each state of the two runs of a ready core.
+-- What holds in each state of the two runs of a core that has a flow.
 use Rattle.std.specs.Prelude.{◌≡◌, ◌≢◌, ◌⊎◌, ℕ, zero, suc, Some, None}
 use Rattle.hy_core.specs.Plain.{Writes}
 use Rattle.hy_core.specs.Values.{Val, Path, get, Apart, Diverge, Within, IsThere, shape}
 use Rattle.hy_core.specs.Memory.{Key, below, Origin, Copies, copying, Cells, target, lending, no_copies, no_cells}
 use Rattle.hy_core.specs.Runs.{State}
 use Rattle.hy_core.specs.Calm.{IsWritable, IsCalm}
-use Rattle.hy_core.specs.Control.{Control, GivesUp, Setting}
+use Rattle.hy_core.specs.Control.{Control, Setting}
 use Rattle.hy_core.specs.Statements.{interaction}
 use Rattle.hy_core.specs.Meaning.{Run, setting, state}
 use Rattle.hy_core.specs.Dropped.{KeepsAll}
-use Rattle.hy_core.specs.Ready.{Ready}
+use Rattle.hy_core.specs.Shaped.{Shaped}
+use Rattle.hy_core.specs.Flow.{HasFlow}
 
 -- what the store holds for a local
 abbrev pub held : Cells → Key → Val
@@ -52,12 +53,13 @@ pub record ReadyState (p : Setting) (c : Control) (m : Copies) (s : Cells) : Typ
   pub calm : IsCalm (interaction p c) m
   -- it stores over no set array; and at a `Leave` that has taken what it hands out, nothing that the body owns is set, and
   -- nothing that it opened is open
-  pub keeps : KeepsAll (interaction p c) m
+  pub keeps : KeepsAll p.stage (interaction p c) m
 
 pub record AtStep (p : Setting) (x : State Control Copies) (y : State Control Cells) : Type 0 where
   pub control : x.control ≡ y.control
   pub ready : ReadyState p x.control x.memory y.memory
 
--- In each state of the runs of a ready core, both runs have one control, the memories agree, and the next step is allowed.
+-- In each state of the runs of a core that has a flow, both runs have one control, the memories agree, and the next step is allowed.
+-- It is checked, and so ready, or its `Drop` deinitialises.
 abbrev pub ReadyStates : Type 0
-ReadyStates = (r : Run) → r.stage ≡ GivesUp → Ready r.core → (k : ℕ) → AtStep (setting r) (state copying no_copies r k) (state lending no_cells r k)
+ReadyStates = (r : Run) → Shaped r.core → HasFlow r.stage r.core → (k : ℕ) → AtStep (setting r) (state copying no_copies r k) (state lending no_cells r k)

@@ -2,7 +2,7 @@
 
 ghost use Rattle.hy_core.specs.Differences.{Differences};
 ghost use Rattle.hy_core.specs.Examples.{Examples, trap_in_slide};
-ghost use Rattle.hy_core.specs.Flowing.{CalmFlow, WildFlow, FlawedFlow, MendedFlow};
+ghost use Rattle.hy_core.specs.Flowing.{CalmFlow, DoubtfulFlow, FlawedFlow, MendedFlow, WildFlow};
 ghost use Rattle.hy_core.specs.Meaning.{CopyingAndLendingAgree, EveryRunEnds, MeaningsAgree, OneMeaning};
 ghost use Rattle.hy_core.specs.Ready.{Ready};
 
@@ -38,10 +38,11 @@ pub fn a_core_is_ready()
 {}
 
 /// The small cores that are calm have a flow, which is computed, and those that are not calm have none. Nor has a core that
-/// breaks one rule of flows; and one that is mended has.
+/// breaks one rule of flows; and one that is mended has. What is set on one way only is used where that is known.
 pub fn flow_examples()
     ensures calm { CalmFlow }
     ensures wild { WildFlow }
     ensures flawed { FlawedFlow }
     ensures mended { MendedFlow }
+    ensures doubtful { DoubtfulFlow }
 {}

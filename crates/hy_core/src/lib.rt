@@ -17,6 +17,6 @@ pub use program::{
     CoreWay,
 };
 pub use ready::{
-    computed_flow_is_flow, ready_cores_agree, ready_cores_are_calm, ready_cores_drop_all,
-    ready_states, shaped_is_never_stuck,
+    computed_flow_is_flow, flow_agrees, flow_is_calm, flow_is_dropped, ready_cores_agree,
+    ready_cores_are_calm, ready_cores_drop_all, ready_states, shaped_is_never_stuck,
 };

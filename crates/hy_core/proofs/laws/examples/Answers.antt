@@ -1,6 +1,6 @@
 use Rattle.std.proofs.Common.{refl}
 use Rattle.std.specs.Fmt.{digits}
-use Rattle.hy_core.specs.Examples.{Examples, LentPlaces, Subscripts, Deinitialisers, Loops, Inputs, Operations}
+use Rattle.hy_core.specs.Examples.{Examples, LentPlaces, Subscripts, Deinitialisers, OneWay, Loops, Inputs, Operations}
 use Rattle.hy_core.specs.Differences.{Differences}
 use Rattle.hy_core.proofs.laws.examples.Goals as goal
 
@@ -36,6 +36,19 @@ deinitialisers = record {
   spent = (refl, refl);
   tree = (refl, refl);
   copy_spent = (refl, refl);
+}
+
+one_way : OneWay
+unfolding digits
+one_way = record {
+  moved = (refl, refl);
+  moved_not = (refl, refl);
+  moved_checked = (refl, refl);
+  moved_not_checked = (refl, refl);
+  set = (refl, refl);
+  set_not = (refl, refl);
+  set_checked = (refl, refl);
+  set_not_checked = (refl, refl);
 }
 
 loops : Loops
@@ -100,7 +113,15 @@ differences = record {
 }
 
 examples : Examples
-examples = record { places = places; subscripts = subscripts; deinitialisers = deinitialisers; loops = loops; inputs = inputs; operations = operations }
+examples = record {
+  places = places;
+  subscripts = subscripts;
+  deinitialisers = deinitialisers;
+  one_way = one_way;
+  loops = loops;
+  inputs = inputs;
+  operations = operations;
+}
 
 pub returns-clause-calm : goal.returns-clause-calm
 returns-clause-calm c = examples

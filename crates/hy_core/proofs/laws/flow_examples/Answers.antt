@@ -21,6 +21,10 @@ returns-clause-calm c = record {
   in_part = refl;
   rows = refl;
   tree = refl;
+  moved = refl;
+  moved_checked = refl;
+  set_in_one = refl;
+  set_in_one_checked = refl;
   loop = refl;
   left =
       refl;
@@ -77,3 +81,20 @@ returns-clause-flawed c = record {
 
 pub returns-clause-mended : goal.returns-clause-mended
 returns-clause-mended c = record { elements = refl; filled = refl; inout = refl; yields = refl; copied = refl }
+
+pub returns-clause-doubtful : goal.returns-clause-doubtful
+returns-clause-doubtful c = record {
+  read = refl;
+  moved = refl;
+  lent = refl;
+  read_checked = refl;
+  where_set = refl;
+  where_unset = refl;
+  wrongly = refl;
+  no_more = refl;
+  over = refl;
+  dropped = refl;
+  left = refl;
+  passes = refl;
+  branch = refl;
+}

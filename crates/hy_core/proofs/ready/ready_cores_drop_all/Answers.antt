@@ -1,5 +1,5 @@
 use Rattle.hy_core.proofs.ready.ready_cores_drop_all.Goals as goal
-use Rattle.hy_core.proofs.SetRuns.{flow_is_dropped}
+use Rattle.hy_core.proofs.SetRuns.{ready_cores_drop_all}
 
 pub returns : goal.returns
-returns c = flow_is_dropped
+returns c = ready_cores_drop_all

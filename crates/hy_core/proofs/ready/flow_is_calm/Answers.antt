@@ -1,0 +1,5 @@
+use Rattle.hy_core.proofs.ready.flow_is_calm.Goals as goal
+use Rattle.hy_core.proofs.SetRuns.{flow_is_calm}
+
+pub returns : goal.returns
+returns c = flow_is_calm
