@@ -1,11 +1,16 @@
 -- The test whether two types are the same tells whether they are equal.
-use Rattle.std.proofs.Common.{◌≡◌, refl, sym, ap, ◌∙◌, Bool, true, false, ◌&&◌}
+use Rattle.hy_check.specs.NamedShown.{named_shown}
+use Rattle.hy_check.specs.declared.named.Named.{Named}
+use Rattle.hy_check.specs.declared.named.Named.TheVariants as named
+use Rattle.std.proofs.Common.{List, [], ◌∷◌, length}
+use Rattle.std.proofs.Common.{◌≡◌, refl, sym, ap, ◌∙◌, Bool, true, false, ◌&&◌, ◌==◌}
 use Rattle.std.proofs.lemmas.Bool.{true≢false, eqb-true, eq-eqb}
 use Rattle.std.specs.Bool.{Decides}
 use Rattle.hy_base.specs.declared.numbers.Num.{Num}
 use Rattle.hy_base.specs.declared.numbers.Num.TheVariants.{I8, I16, I32, U8, U16, U32, U64}
 use Rattle.hy_types.specs.Types as Y
 use Rattle.hy_types.specs.Types.{PlainType, PlainTypes}
+use Rattle.hy_types.specs.declared.kinds.TyId.{TyId}
 use Rattle.hy_check.specs.PlainTypes.{same_num, same_type, same_types}
 
 left : (a b : Bool) → a && b ≡ true → a ≡ true
@@ -20,7 +25,7 @@ both : (a b : Bool) → a ≡ true → b ≡ true → a && b ≡ true
 both true b one two = two
 both false b one two = absurd (true≢false (sym one))
 
-equal_num : (a b : Num) → same_num a b ≡ true → a ≡ b
+pub equal_num : (a b : Num) → same_num a b ≡ true → a ≡ b
 equal_num I8 I8 h = refl
 equal_num I16 I16 h = refl
 equal_num I32 I32 h = refl
@@ -72,3 +77,28 @@ mutual
 
 pub decides : (a b : PlainType) → Decides (same_type a b) (a ≡ b)
 decides a b = (equal a b, λ e. ap (same_type a) (sym e) ∙ itself a)
+
+pub one_answer : (a b : Bool) → (a ≡ true → b ≡ true) → (b ≡ true → a ≡ true) → a ≡ b
+one_answer true b to back = sym (to refl)
+one_answer false true to back = back refl
+one_answer false false to back = refl
+
+-- two numbers of one type are one
+pub same_numbers : (table : Y.Table) (one other : TyId) → (Y.type_of table other ≡ Y.type_of table one → other ≡ one)
+    → (one.at == other.at) ≡ same_type (Y.type_of table one) (Y.type_of table other)
+same_numbers table one other once =
+    one_answer (one.at == other.at) (same_type (Y.type_of table one) (Y.type_of table other))
+    (λ e. let same : one ≡ other = λ i. record { at = eqb-true one.at other.at e i } in
+    (decides (Y.type_of table one) (Y.type_of table other)).1 (ap (Y.type_of table) same))
+    (λ e. eq-eqb one.at other.at (ap (λ (id : TyId). id.at) (sym (once (sym (equal (Y.type_of table one) (Y.type_of table other) e))))))
+
+-- no name stands for a tuple that has parts
+pub not_named : (plain : TyId → PlainType) (ids : List TyId) → (length ids == 0) ≡ false → (named : Named)
+    → same_type (Y.Tuple (Y.plain_types plain ids)) (named_shown named) ≡ false
+not_named plain [] h named = absurd (true≢false h)
+not_named plain (id ∷ ids) h named.Int = refl
+not_named plain (id ∷ ids) h named.Bool = refl
+not_named plain (id ∷ ids) h (named.Sized num) = refl
+not_named plain (id ∷ ids) h named.Unit = refl
+not_named plain (id ∷ ids) h (named.Product declaration) = refl
+not_named plain (id ∷ ids) h (named.Param place) = refl

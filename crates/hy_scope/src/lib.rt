@@ -18,5 +18,7 @@ mod statement;
 mod table;
 mod written;
 
+pub use families::base_of;
+pub use full_name::{called_name, declared_name};
 pub use laws::{full_names_tell_apart, names_stand_at_their_nodes};
 pub use resolved_names::resolve;
