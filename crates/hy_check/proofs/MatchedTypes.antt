@@ -3,7 +3,10 @@ use Rattle.std.proofs.Common.{◌≡◌, List, [], ◌∷◌, suc, length, Optio
 use Rattle.std.specs.Option.{option_and_then}
 use Rattle.std.proofs.Common.{ℕ, zero, ◌<◌, get_or, map, arith}
 use Rattle.hy_types.specs.Types.{Table, PlainType, plain_types, type_of}
-use Rattle.hy_check.specs.Signatures.{fitted, solved}
+use Rattle.std.proofs.Common.{Bool, true, false, ◌&&◌, ◌⊎◌, inl, inr, sym, ◌∙◌}
+use Rattle.std.proofs.lemmas.Bool.{cases_order}
+use Rattle.hy_check.specs.Signatures as S
+use Rattle.hy_check.specs.Signatures.{fitted, solved, is_wanted, are_determined}
 use Rattle.hy_check.specs.SignaturesShown.{AreWanted, parameter_shown}
 use Rattle.hy_check.specs.WantedShown.{IsWanted}
 use Rattle.hy_check.specs.declared.signatures.Parameter.{Parameter}
@@ -40,3 +43,19 @@ pub wanted_at : (table : Table) (params : List Parameter) (k : ℕ) (d : Paramet
 wanted_at table [] k d are lt = absurd (omega (arith, lt))
 wanted_at table (p ∷ params) zero d are lt = are.0
 wanted_at table (p ∷ params) (suc k) d are lt = wanted_at table params k d are.1 (omega (arith, lt))
+
+and_false : (b : Bool) → b && false ≡ false
+and_false true = refl
+and_false false = refl
+
+-- a type parameter that stands in no type of a parameter is not determined
+pub not_determined : (params : List S.Parameter) (place count : ℕ) → place < count → is_wanted place params ≡ false → are_determined count params ≡ false
+not_determined params place zero lt none = absurd (omega (arith, lt))
+not_determined params place (suc count) lt none = by (λ before. not_determined params place count before none) (cases_order place count)
+  where
+    by : (place < count → are_determined count params ≡ false) → (place ≡ count) ⊎ ((place < count) ⊎ (count < place))
+        → are_determined (suc count) params ≡ false
+    by earlier (inl here) =
+        ap (λ b. are_determined count params && b) (ap (λ n. is_wanted n params) (sym here) ∙ none) ∙ and_false (are_determined count params)
+    by earlier (inr (inl before)) = ap (λ b. b && is_wanted count params) (earlier before)
+    by earlier (inr (inr after)) = absurd (omega (arith, lt, after))

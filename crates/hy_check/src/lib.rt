@@ -3,6 +3,7 @@
 
 pub mod callables;
 pub mod copyables;
+pub mod determined;
 mod laws;
 pub mod lookups;
 mod meet;
