@@ -5,6 +5,12 @@ use Rattle.std.proofs.Common.{ℕ, zero, ◌<◌, get_or, map, arith}
 use Rattle.hy_types.specs.Types.{Table, PlainType, plain_types, type_of}
 use Rattle.std.proofs.Common.{Bool, true, false, ◌&&◌, ◌⊎◌, inl, inr, sym, ◌∙◌}
 use Rattle.std.proofs.lemmas.Bool.{cases_order}
+use Rattle.std.specs.Option.{option_map}
+use Rattle.hy_types.specs.Types.{Extends, HasId, More}
+use Rattle.hy_types.proofs.Replaced.{type_kept}
+use Rattle.hy_check.specs.PlainTypes.{replaced, replaced_all, types}
+use Rattle.hy_check.specs.SolutionShown.{AreFound, found_shown, number_found}
+use Rattle.hy_check.specs.declared.solutions.Solution.{Solution}
 use Rattle.hy_check.specs.Signatures as S
 use Rattle.hy_check.specs.Signatures.{fitted, solved, is_wanted, are_determined}
 use Rattle.hy_check.specs.SignaturesShown.{AreWanted, parameter_shown}
@@ -59,3 +65,18 @@ not_determined params place (suc count) lt none = by (λ before. not_determined 
         ap (λ b. are_determined count params && b) (ap (λ n. is_wanted n params) (sym here) ∙ none) ∙ and_false (are_determined count params)
     by earlier (inr (inl before)) = ap (λ b. b && is_wanted count params) (earlier before)
     by earlier (inr (inr after)) = absurd (omega (arith, lt, after))
+
+-- IN A TABLE THAT GROWS
+
+shown_still : (old new : Table) (o : Option TyId) → Extends old new → ((id : TyId) → o ≡ Some id → HasId old id)
+    → option_map (type_of new) o ≡ option_map (type_of old) o
+shown_still old new None stays known = refl
+shown_still old new (Some id) stays known = ap Some (type_kept old new stays id (known id refl))
+
+pub found_still : (old new : Table) (found : Solution) → Extends old new → AreFound old found → found_shown new found ≡ found_shown old found
+found_still old new found stays known = λ i place. shown_still old new (number_found found place) stays (known place) i
+
+pub replaced_each : (found : Found) (plain : TyId → PlainType) (ids : List TyId) → types (map (λ id. replaced found (plain id)) ids)
+    ≡ replaced_all found (plain_types plain ids)
+replaced_each found plain [] = refl
+replaced_each found plain (id ∷ ids) = ap (More (replaced found (plain id))) (replaced_each found plain ids)
