@@ -10,6 +10,7 @@ mod meet;
 pub mod members;
 pub mod named;
 pub mod owners;
+pub mod predeclared;
 pub mod replaced;
 pub mod returns;
 pub mod signatures;

@@ -1,13 +1,14 @@
 // What is called, with its parameters.
-ghost use Rattle.std.specs.Prelude.{◌≡◌, ◌&&◌, [], ◌∷◌, not, map, IfOk};
+ghost use Rattle.std.specs.Prelude.{◌≡◌, ◌&&◌, [], ◌∷◌, List, not, map, IfOk};
 ghost use Rattle.hy_tree.specs.Denotes.{callable_of, variant_of};
 ghost use Rattle.hy_tree.specs.Parts.{is_bundle};
-ghost use Rattle.hy_types.specs.Types.{Table, HasId, type_of};
+ghost use Rattle.hy_types.specs.Types.{Table, HasId, PlainType, type_of};
+ghost use Rattle.hy_check.specs.Numbered.{IsNumber};
 ghost use Rattle.hy_check.specs.CallablesShown.{HasTypes};
 ghost use Rattle.hy_check.specs.Declarations as declarations;
 ghost use Rattle.hy_check.specs.Signatures as signatures;
 ghost use Rattle.hy_check.specs.Signatures.{modes_of, parameters_of};
-ghost use Rattle.hy_check.specs.SignaturesShown.{ParametersAre, AreWanted, IsSignature, callee_shown, parameter_shown, receiver_shown};
+ghost use Rattle.hy_check.specs.SignaturesShown.{ParametersAre, IsSignature, callee_shown, receiver_shown};
 
 use crate::callables::CallableTypes;
 use crate::wanted::Wanted;
@@ -201,9 +202,8 @@ pub fn predeclared_signature(
     params: Vec<Parameter>,
     gives: TyId,
 ) -> Result<Signature, NoMemory>
-    ensures { IfOk result (λ s. (table : Table) → AreWanted table params.items → HasId table gives
-        → IsSignature table (signatures.predeclared (callee_shown table callee) (receiver_shown receiver) (map (parameter_shown table) params.items)
-        (type_of table gives)) s) }
+    ensures { IfOk result (λ s. (table : Table) (wanted : List signatures.Parameter) (type : PlainType) → ParametersAre table wanted params.items
+        → IsNumber table type gives → IsSignature table (signatures.predeclared (callee_shown table callee) (receiver_shown receiver) wanted type) s) }
 {
     let variants = one_mode(alloc, Mode::Let)?;
     Ok(Signature {
