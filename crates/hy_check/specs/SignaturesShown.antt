@@ -69,3 +69,10 @@ pub record IsSignature (table : Table) (wanted : S.Signature) (s : Signature) : 
   pub result : HasId table s.result
   pub known : IfSome s.known (λ id. HasId table id)
   pub is : signature_shown table s ≡ wanted
+
+-- this is the signature, where there is one
+abbrev pub IsPerhaps : Table → Option S.Signature → Option Signature → Type 0
+IsPerhaps table None None = Unit {0}
+IsPerhaps table (Some wanted) (Some s) = IsSignature table wanted s
+IsPerhaps table None (Some s) = ⊥
+IsPerhaps table (Some wanted) None = ⊥

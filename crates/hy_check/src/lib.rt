@@ -1,6 +1,7 @@
 //! Types: every expression has its type, and every call its declaration. `docs/TYPING.md` has the rules.
 #![tactic(auto)]
 
+pub mod array_members;
 pub mod callables;
 pub mod copyables;
 pub mod determined;

@@ -19,7 +19,7 @@ use hy_types::TyId;
 use std::alloc::Global;
 
 /// One parameter that is only read.
-fn one_read(alloc: Global, wanted: Wanted) -> Result<Vec<Parameter>, NoMemory>
+pub(crate) fn one_read(alloc: Global, wanted: Wanted) -> Result<Vec<Parameter>, NoMemory>
     ensures { IfOk result (λ params. params.items ≡ record { wanted = wanted; convention = convention.Reads } ∷ []) }
 {
     let mut params = Vec::new(alloc);

@@ -149,7 +149,7 @@ pub fn declared_signature(
 }
 
 /// One variant.
-fn one_mode(alloc: Global, mode: Mode) -> Result<Vec<Mode>, NoMemory>
+pub(crate) fn one_mode(alloc: Global, mode: Mode) -> Result<Vec<Mode>, NoMemory>
     ensures { IfOk result (λ modes. modes.items ≡ mode ∷ []) }
 {
     let mut modes = Vec::new(alloc);
