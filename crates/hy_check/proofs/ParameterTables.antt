@@ -8,6 +8,12 @@ use Rattle.hy_types.specs.Types as Y
 use Rattle.hy_types.specs.Types.{Table, PlainType, plain_types}
 use Rattle.hy_types.specs.declared.kinds.TyId.{TyId}
 use Rattle.hy_types.proofs.Reading.{below_at}
+use Rattle.hy_tree.specs.declared.operator.Mode.TheVariants as mode
+use Rattle.hy_types.specs.Types.{HasIds}
+use Rattle.hy_check.specs.Declarations.{Field}
+use Rattle.hy_check.specs.MembersShown.{HasFields, field_shown}
+use Rattle.hy_check.specs.SignaturesShown.{field_parameter}
+use Rattle.hy_check.specs.declared.members.FieldType.{FieldType}
 use Rattle.hy_check.specs.CallablesShown.{parameter_types}
 use Rattle.hy_check.specs.Declarations.{Source, written_type}
 use Rattle.hy_check.specs.Numbered.{AreNumbers}
@@ -67,3 +73,21 @@ module _ (table : Table) (source : Source) (params : List Param) (ids : List TyI
             ∙ sym (ap (S.parameters_of source) (map_more param_of params k p lt ∙ ap (λ q. map param_of (take k params) ++ param_of q ∷ []) (sym item))
             ∙ map_push (λ (q : T.Param). S.parameter (S.Exactly (written_type source q.written)) (S.By q.mode)) (map param_of (take k params)) (param_of p));
       }
+
+-- FIELDS
+
+fields_wanted : (table : Table) (kept : List FieldType) → HasIds table (map (λ (f : FieldType). f.number) kept) → AreWanted table (map field_parameter kept)
+fields_wanted table [] known = tt
+fields_wanted table (field ∷ more) known = (known.0, fields_wanted table more known.1)
+
+fields_are : (table : Table) (kept : List FieldType) → map (parameter_shown table) (map field_parameter kept)
+    ≡ map (λ (f : Field). S.parameter (S.Exactly f.type) (S.By mode.Sink)) (map (field_shown table) kept)
+fields_are table [] = refl
+fields_are table (field ∷ more) = ap (λ list. parameter_shown table (field_parameter field) ∷ list) (fields_are table more)
+
+pub field_parameters_are : (table : Table) (list : List Field) (kept : List FieldType) → HasFields table list kept
+    → ParametersAre table (map (λ (f : Field). S.parameter (S.Exactly f.type) (S.By mode.Sink)) list) (map field_parameter kept)
+field_parameters_are table list kept has = record {
+  known = fields_wanted table kept has.known;
+  are = fields_are table kept ∙ ap (map (λ (f : Field). S.parameter (S.Exactly f.type) (S.By mode.Sink))) has.are;
+}

@@ -8,6 +8,9 @@ use Rattle.hy_check.specs.WantedShown.{wanted_shown, IsWanted}
 use Rattle.hy_check.specs.declared.signatures.Convention.{Convention}
 use Rattle.hy_check.specs.declared.signatures.Convention.TheVariants as convention
 use Rattle.hy_check.specs.declared.signatures.Parameter.{Parameter}
+use Rattle.hy_tree.specs.declared.operator.Mode.TheVariants as mode
+use Rattle.hy_check.specs.declared.members.FieldType.{FieldType}
+use Rattle.hy_check.specs.declared.wanted.Wanted.TheVariants as wanted
 use Rattle.hy_check.specs.declared.signatures.Callee.{Callee}
 use Rattle.hy_check.specs.declared.signatures.Callee.TheVariants as callee
 use Rattle.hy_check.specs.declared.signatures.Receiver.{Receiver}
@@ -76,3 +79,7 @@ IsPerhaps table None None = Unit {0}
 IsPerhaps table (Some wanted) (Some s) = IsSignature table wanted s
 IsPerhaps table None (Some s) = ⊥
 IsPerhaps table (Some wanted) None = ⊥
+
+-- the parameter for a field
+abbrev pub field_parameter : FieldType → Parameter
+field_parameter field = record { wanted = wanted.Exactly field.number; convention = convention.By mode.Sink }

@@ -1,19 +1,24 @@
 // Signatures of what the language declares.
-ghost use Rattle.std.specs.Prelude.{◌≡◌, [], ◌∷◌, IfOk};
-ghost use Rattle.hy_types.specs.Types.{Bool, Int, HasId, type_of};
+ghost use Rattle.std.specs.Prelude.{◌≡◌, [], ◌∷◌, List, IfOk, map};
+ghost use Rattle.hy_types.specs.Types.{Table, Bool, Int, Product, HasId, type_of};
+ghost use Rattle.hy_check.specs.Declarations.{Field};
+ghost use Rattle.hy_check.specs.MembersShown.{HasFields};
+ghost use Rattle.hy_check.specs.Numbered.{IsNumber};
 ghost use Rattle.hy_tree.specs.declared.predeclared.TheConstants as number;
 ghost use Rattle.hy_check.specs.declared.signatures.Convention.TheVariants as convention;
 ghost use Rattle.hy_check.specs.PlainTypes.{unit};
 ghost use Rattle.hy_check.specs.Signatures as signatures;
 ghost use Rattle.hy_check.specs.Signatures.{parameter, predeclared};
-ghost use Rattle.hy_check.specs.SignaturesShown.{IsSignature};
+ghost use Rattle.hy_check.specs.SignaturesShown.{IsSignature, field_parameter};
 
+use crate::members::FieldType;
 use crate::signatures::{
     Callee, Convention, Parameter, Receiver, Signature, predeclared_signature,
 };
 use crate::types::Types;
 use crate::wanted::Wanted;
 use hy_base::NoMemory;
+use hy_tree::Mode;
 use hy_tree::predeclared::{PRECONDITION, PRINT, READ};
 use hy_types::TyId;
 use std::alloc::Global;
@@ -71,5 +76,35 @@ pub fn conversion_signature(alloc: Global, types: &Types, to: TyId) -> Result<Si
     let params = one_read(alloc, Wanted::Integer)?;
     let callee = Callee::Conversion(to);
     let s = predeclared_signature(alloc, callee, Receiver::Nothing, params, to)?;
+    Ok(s)
+}
+
+/// A parameter for each field, to which its value is moved.
+fn field_parameters(alloc: Global, fields: &[FieldType]) -> Result<Vec<Parameter>, NoMemory>
+    ensures { IfOk result (λ params. params.items ≡ map field_parameter fields.now) }
+{
+    let mut params = Vec::new(alloc);
+    for field in fields {
+        params.push(Parameter {
+            wanted: Wanted::Exactly(field.number),
+            convention: Convention::By(Mode::Sink),
+        })?;
+    }
+    Ok(params)
+}
+
+/// `P(x: .., y: ..)`, which builds the product at a node, of these fields and with this number.
+pub fn initialiser_signature(
+    alloc: Global,
+    node: u32,
+    fields: &[FieldType],
+    product: TyId,
+) -> Result<Signature, NoMemory>
+    ensures { IfOk result (λ s. (table : Table) (list : List Field) → HasFields table list fields.now → IsNumber table (Product node) product
+        → IsSignature table (signatures.initialiser node list) s) }
+{
+    let params = field_parameters(alloc, fields)?;
+    let callee = Callee::Initialiser(node);
+    let s = predeclared_signature(alloc, callee, Receiver::Nothing, params, product)?;
     Ok(s)
 }
