@@ -118,7 +118,8 @@ name_present table source wanted before by member c is same has are = record {
 }
 
 -- one member more, whose full name has none yet
-pub name_absent : (old new : Table) (source : Source) (wanted : CallableKind) (before : List T.Member) (by after : ByName) (member : T.Member) (c : T.Callable)
+pub name_absent : (old new : Table) (source : Source) (wanted : CallableKind) (before : List T.Member) (by after : ByName) (member : T.Member)
+    (c : T.Callable)
     (row : CallableTypes) → member.kind ≡ T.MemberCallable c → c.kind ≡ wanted → is_some (row_named by (own_name c)) ≡ false
     → ((name : List ℕ) → row_named after name ≡ cond (bytes_eq name (own_name c)) (Some row) (row_named by name)) → callable_of row.callable.now ≡ c
     → HasTypes new source c row → Extends old new → AreByName old source wanted before by → AreByName new source wanted (before ++ member ∷ []) after

@@ -294,4 +294,5 @@ result_as marked s = cond (marked && s.is_bundle) unit s.result
 -- are wanted, and `copy()` copies what is copyable.
 abbrev pub called_type : Source → List TypeParam → Truth → Signature → List PlainType → Option PlainType
 called_type source generics marked s given =
-    cond (is_determined s && copies_soundly source generics s) (option_map (λ found. replaced found (result_as marked s)) (solved s.params given s.known)) None
+    cond (is_determined s && copies_soundly source generics s) (option_map (λ found. replaced found (result_as marked s))
+    (solved s.params given s.known)) None

@@ -110,7 +110,8 @@ impl<'a> Callables<'a> {
         types: &mut Types,
         c: &'a Callable,
     ) -> Result<(), NoMemory>
-        ensures shown { OnOk result ((node : ℕ) → callables_shown self.new node ≡ or (callables_shown self.old node) (callable_if node (callable_of c.now))) }
+        ensures shown { OnOk result ((node : ℕ) → callables_shown self.new node ≡ or (callables_shown self.old node) (callable_if node
+            (callable_of c.now))) }
         ensures types { OnOk result (HaveTypes types.old (source_shown source.now) self.old → HaveTypes types.new (source_shown source.now) self.new) }
         ensures stays { Extends types.old types.new }
     {

@@ -48,7 +48,8 @@ impl Types {
     ) -> Result<TyList, NoMemory>
         requires known { HasIds self.old ids.now }
         requires found { AreFound self.old found.now }
-        ensures numbers { IfOk result (λ made. AreNumbers self.new (replaced_all (found_shown self.old found.now) (plain_types (type_of self.old) ids.now)) made) }
+        ensures numbers { IfOk result (λ made. AreNumbers self.new (replaced_all (found_shown self.old found.now) (plain_types
+            (type_of self.old) ids.now)) made) }
         ensures stays { Extends self.old self.new }
     {
         let mut made = Vec::new(alloc);

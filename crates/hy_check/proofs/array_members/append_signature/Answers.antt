@@ -9,5 +9,6 @@ use Rattle.hy_check.proofs.array_members.append_signature.Goals as goal
 pub returns : goal.returns
 returns c =
     c.in_ok-s.ensures c.args.types.now (S.parameter (S.Exactly (type_of c.args.types.now c.args.element)) (S.By mode.Sink) ∷ []) unit
-    (subst (ParametersAre c.args.types.now (S.parameter (S.Exactly (type_of c.args.types.now c.args.element)) (S.By mode.Sink) ∷ [])) (sym c.in_ok-params.ensures) (record { known = (c.requires, tt); are = refl }))
+    (subst (ParametersAre c.args.types.now (S.parameter (S.Exactly (type_of c.args.types.now c.args.element)) (S.By mode.Sink) ∷ []))
+    (sym c.in_ok-params.ensures) (record { known = (c.requires, tt); are = refl }))
     c.unit.ensures

@@ -7,5 +7,9 @@ use Rattle.hy_check.proofs.predeclared.print_signature.Goals as goal
 pub returns : goal.returns
 returns c =
     c.in_ok-s.ensures c.args.types.now (S.parameter S.AnIntegerOrBool S.Reads ∷ []) unit
-    (subst (ParametersAre c.args.types.now (S.parameter S.AnIntegerOrBool S.Reads ∷ [])) (sym c.in_ok-params.ensures) (record { known = (tt, tt); are = refl }))
+    (subst (ParametersAre c.args.types.now (S.parameter S.AnIntegerOrBool S.Reads ∷ [])) (sym c.in_ok-params.ensures) (record {
+      known =
+          (tt, tt);
+      are = refl;
+    }))
     c.unit.ensures

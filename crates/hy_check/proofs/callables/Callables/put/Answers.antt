@@ -12,7 +12,8 @@ use Rattle.hy_check.proofs.callables.Callables.put.Goals as goal
 pub returns-clause-types : goal.returns-clause-types
 returns-clause-types c had node row at =
     let source = source_shown c.args.source.now in
-    let has = subst (λ (callable : Callable). HasTypes c.with_types.new.types source (callable_of callable) c.in_ok-row.row) (sym c.in_ok-row.ensures.callable)
+    let has = subst (λ (callable : Callable). HasTypes c.with_types.new.types source (callable_of callable) c.in_ok-row.row)
+    (sym c.in_ok-row.ensures.callable)
     c.in_ok-row.ensures.types in
     types_put c.args.types.now c.with_types.new.types source c.in_ok-row.row (node == c.args.c.now.node) (row_at c.args.self.now node) row
     c.in_ok-row.ensures.stays has (had node row)

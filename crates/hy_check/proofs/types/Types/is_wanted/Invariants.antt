@@ -5,4 +5,5 @@ use Rattle.hy_check.proofs.types.Types.is_wanted.Given as goal
 
 abbrev pub invariant-loop-p : goal.invariant-loop-p
 invariant-loop-p l =
-    signatures.is_wanted l.place (map (parameter_shown l.self) (drop l.p-index l.params)) ≡ signatures.is_wanted l.place (map (parameter_shown l.self) l.params)
+    signatures.is_wanted l.place (map (parameter_shown l.self) (drop l.p-index l.params)) ≡ signatures.is_wanted l.place (map
+    (parameter_shown l.self) l.params)
