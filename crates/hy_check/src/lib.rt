@@ -5,6 +5,7 @@ pub mod array_members;
 pub mod callables;
 pub mod copyables;
 pub mod determined;
+pub mod functions;
 mod laws;
 pub mod lookups;
 mod meet;
