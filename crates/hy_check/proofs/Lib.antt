@@ -1,11 +1,1 @@
-pub mod CallableTables
-pub mod CopyTables
-pub mod Equality
-pub mod Keys
 pub mod Lists
-pub mod MemberTables
-pub mod Numbering
-pub mod OwnerTables
-pub mod ParameterTables
-pub mod MatchedTypes
-pub mod TraitTables

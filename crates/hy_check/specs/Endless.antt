@@ -2,7 +2,7 @@
 use Rattle.std.specs.Prelude.{ℕ, zero, suc, ◌==◌, ◌||◌, Bool as Truth, false, List, [], ◌∷◌, ◌++◌, length, flat_map}
 use Rattle.hy_types.specs.Types as Y
 use Rattle.hy_types.specs.Types.{PlainType, PlainTypes}
-use Rattle.hy_check.specs.Declarations.{Source, Field, fields_of}
+use Rattle.hy_signatures.specs.Declarations.{Source, Field, fields_of}
 
 -- the products that a type is or has as parts, outside arrays
 abbrev mutual

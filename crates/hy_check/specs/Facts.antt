@@ -3,10 +3,11 @@
 use Rattle.std.specs.Prelude.{ℕ, ◌==◌, Bool as Truth, List, [], ◌∷◌, ◌++◌, Option, Some, None, cond, flat_map}
 use Rattle.hy_tree.specs.Tree as T
 use Rattle.hy_tree.specs.declared.name.Name.{Name}
-use Rattle.hy_check.specs.Declarations.{Source, written_type, result_type}
+use Rattle.hy_signatures.specs.Declarations.{Source, written_type, result_type}
 use Rattle.hy_check.specs.Phrases.{Phrase, AnExpr, AStep, AStmt, bound_type, phrases}
 use Rattle.hy_check.specs.Postfix.{value_of, Seen, CallStep}
-use Rattle.hy_check.specs.Typing.{Around, type_in, typed, valued, joined, seen, after, step_types, all_there}
+use Rattle.hy_signatures.specs.Operators.{joined}
+use Rattle.hy_check.specs.Typing.{Around, type_in, typed, valued, seen, after, step_types, all_there}
 use Rattle.hy_check.specs.Uses.{Use, Sig, sig_of, on_place}
 use Rattle.hy_types.specs.Types.{PlainType}
 

@@ -11,7 +11,7 @@ use Rattle.hy_tree.specs.declared.operator.Mode.{Mode}
 use Rattle.hy_tree.specs.declared.operator.Mode.TheVariants as mode
 use Rattle.hy_types.specs.Types as Y
 use Rattle.hy_types.specs.Types.{PlainType}
-use Rattle.hy_check.specs.Declarations.{Source, written_type, result_type, named_type}
+use Rattle.hy_signatures.specs.Declarations.{Source, written_type, result_type, named_type}
 use Rattle.hy_check.specs.Postfix.{Before, Has, Name, Member, none, Seen, CallStep}
 use Rattle.hy_check.specs.Typing.{Around, typed, seen, after, begins}
 use Rattle.hy_check.specs.Uses as U

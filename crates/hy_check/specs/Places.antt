@@ -5,7 +5,7 @@ use Rattle.hy_tree.specs.Tree as T
 use Rattle.hy_tree.specs.declared.meant.Meant.{Meant}
 use Rattle.hy_tree.specs.declared.meant.Meant.TheVariants as meant
 use Rattle.hy_check.specs.Postfix.{Before, Seen, FieldStep, PartStep, NameStep, CallStep, NoSuchStep, UnknownStep}
-use Rattle.hy_check.specs.Signatures.{Signature, Receiver, NoReceiver, ReadReceiver, SelfReceiver, ArrayReceiver}
+use Rattle.hy_signatures.specs.Signatures.{Signature, Receiver, NoReceiver, ReadReceiver, SelfReceiver, ArrayReceiver}
 use Rattle.hy_check.specs.Typing.{Around, seen, after, begins}
 
 pub data Root : Type 0 where

@@ -9,11 +9,11 @@ use Rattle.hy_tree.specs.declared.meant.Meant.{Meant}
 use Rattle.hy_tree.specs.declared.meant.Meant.TheVariants as meant
 use Rattle.hy_tree.specs.declared.predeclared.TheConstants.{COUNT}
 use Rattle.hy_types.specs.Types as Y
-use Rattle.hy_check.specs.PlainTypes.{part_at}
+use Rattle.hy_signatures.specs.PlainTypes.{part_at}
 use Rattle.hy_types.specs.Types.{PlainType}
-use Rattle.hy_check.specs.Declarations.{Source, Field, fields_of, field_named}
-use Rattle.hy_check.specs.Signatures.{Signature, ReadReceiver, function_named, subscript_named, method_named, subscript_of, indexed}
-use Rattle.hy_check.specs.Signatures.{called_type, predeclared, Predeclared}
+use Rattle.hy_signatures.specs.Declarations.{Source, Field, fields_of, field_named}
+use Rattle.hy_signatures.specs.Signatures.{Signature, ReadReceiver, function_named, subscript_named, method_named, subscript_of, indexed}
+use Rattle.hy_signatures.specs.Signatures.{called_type, predeclared, Predeclared}
 
 -- a value: its type, and whether it is a place or an owned result
 pub record Value : Type 0 where

@@ -12,12 +12,13 @@ use Rattle.hy_tree.specs.declared.meant.Meant.{Meant}
 use Rattle.hy_tree.specs.declared.meant.Meant.TheVariants as meant
 use Rattle.hy_tree.specs.declared.operator.Operator.{Operator}
 use Rattle.hy_types.specs.Types as Y
-use Rattle.hy_check.specs.PlainTypes.{Found, unit}
+use Rattle.hy_signatures.specs.PlainTypes.{Found, unit}
 use Rattle.hy_types.specs.Types.{PlainType}
-use Rattle.hy_check.specs.Declarations.{Source, source_of, written_type, Field, fields_among, is_copyable, declares_copyable}
-use Rattle.hy_check.specs.Signatures.{Wanted, Exactly, AnInteger, Parameter, fitted, is_determined, copies_soundly}
+use Rattle.hy_signatures.specs.Declarations.{Source, source_of, written_type, Field, fields_among, is_copyable, declares_copyable}
+use Rattle.hy_signatures.specs.Signatures.{Wanted, Exactly, AnInteger, Parameter, fitted, is_determined, copies_soundly}
 use Rattle.hy_check.specs.Postfix.{Seen, CallStep, NoSuchStep}
-use Rattle.hy_check.specs.Typing.{Around, fits, typed, shown, seen, left_wanted, unary_wanted, joined}
+use Rattle.hy_signatures.specs.Operators.{fits, left_wanted, unary_wanted, joined}
+use Rattle.hy_check.specs.Typing.{Around, typed, shown, seen}
 use Rattle.hy_check.specs.Phrases.{Body, Phrase, AnExpr, AStep, AStmt, phrases, body_of}
 use Rattle.hy_check.specs.Endless.{holds_itself}
 use Rattle.hy_check.specs.Returns.{ends}

@@ -5,15 +5,12 @@ use Rattle.hy_tree.specs.Tree as T
 use Rattle.hy_tree.specs.declared.declaration.TypeParam.{TypeParam}
 use Rattle.hy_tree.specs.declared.meant.Meant.{Meant}
 use Rattle.hy_tree.specs.declared.meant.Meant.TheVariants as meant
-use Rattle.hy_tree.specs.declared.operator.Operator.{Operator}
-use Rattle.hy_tree.specs.declared.operator.Operator.TheVariants as operator
-use Rattle.hy_tree.specs.declared.operator.UnaryOperator.{UnaryOperator}
-use Rattle.hy_tree.specs.declared.operator.UnaryOperator.TheVariants as unary
 use Rattle.hy_types.specs.Types as Y
-use Rattle.hy_check.specs.PlainTypes.{types, same_type, nothing_found}
+use Rattle.hy_signatures.specs.PlainTypes.{types}
 use Rattle.hy_types.specs.Types.{PlainType}
-use Rattle.hy_check.specs.Declarations.{Source, written_type, Field, fields_of, field_at}
-use Rattle.hy_check.specs.Signatures.{Wanted, Exactly, AnInteger, ASigned, AnIntegerOrBool, fitted, is_found}
+use Rattle.hy_signatures.specs.Declarations.{Source, written_type, Field, fields_of, field_at}
+use Rattle.hy_signatures.specs.Signatures.{Wanted, Exactly}
+use Rattle.hy_signatures.specs.Operators.{fits, joined, unary_wanted, only}
 use Rattle.hy_check.specs.Postfix.{Value, place, owned, Before, value_of, before_first, none, Seen, seen_step, after_step}
 
 -- what is known around an expression: the source, the type parameters of the function, the type of `self` where there is one,
@@ -23,11 +20,6 @@ pub record Around : Type 0 where
   pub generics : List TypeParam
   pub own : Option PlainType
   pub locals : ℕ → Option PlainType
-
--- whether a type is the wanted one; there are no parameters to be found
-abbrev pub fits : Wanted → PlainType → Truth
-fits (Exactly type) given = same_type type given
-fits wanted given = is_found (fitted wanted given nothing_found)
 
 -- NAMES
 
@@ -40,37 +32,6 @@ abbrev pub name_type : Around → Meant → Option PlainType
 name_type around (meant.Local node) = around.locals node
 name_type around (meant.SelfField node) = field_type around.source around.own node
 name_type around other = None
-
--- OPERATORS
-
-abbrev pub left_wanted : Operator → Wanted
-left_wanted operator.Or = Exactly Y.Bool
-left_wanted operator.And = Exactly Y.Bool
-left_wanted operator.Equal = AnIntegerOrBool
-left_wanted operator.NotEqual = AnIntegerOrBool
-left_wanted operator.Less = AnInteger
-left_wanted operator.LessEqual = AnInteger
-left_wanted operator.Greater = AnInteger
-left_wanted operator.GreaterEqual = AnInteger
-left_wanted (operator.Arithmetic a) = AnInteger
-
-abbrev pub operated : Operator → PlainType → PlainType
-operated (operator.Arithmetic a) left = left
-operated operator left = Y.Bool
-
--- the right operand is wanted to have the type of the left one
-abbrev pub joined : Operator → Option PlainType → Option PlainType → Option PlainType
-joined operator (Some left) (Some right) = cond (fits (left_wanted operator) left && same_type left right) (Some (operated operator left)) None
-joined operator left right = None
-
-abbrev pub unary_wanted : UnaryOperator → Wanted
-unary_wanted unary.Negate = ASigned
-unary_wanted unary.Not = Exactly Y.Bool
-
--- the type, where it is a wanted one
-abbrev pub only : Wanted → Option PlainType → Option PlainType
-only wanted (Some type) = cond (fits wanted type) (Some type) None
-only wanted None = None
 
 -- SEVERAL EXPRESSIONS
 

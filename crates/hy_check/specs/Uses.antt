@@ -5,9 +5,9 @@ use Rattle.hy_tree.specs.Tree as T
 use Rattle.hy_tree.specs.declared.operator.Mode.{Mode}
 use Rattle.hy_tree.specs.declared.operator.Mode.TheVariants as mode
 use Rattle.hy_types.specs.Types.{PlainType}
-use Rattle.hy_check.specs.PlainTypes.{Found, unit}
-use Rattle.hy_check.specs.Signatures.{Signature, solved, Callee, Convention, Reads, By, Parameter, Receiver, NoReceiver, ReadReceiver}
-use Rattle.hy_check.specs.Signatures.{SelfReceiver, ArrayReceiver}
+use Rattle.hy_signatures.specs.PlainTypes.{Found, unit}
+use Rattle.hy_signatures.specs.Signatures.{Signature, solved, Callee, Convention, Reads, By, Parameter, Receiver, NoReceiver, ReadReceiver}
+use Rattle.hy_signatures.specs.Signatures.{SelfReceiver, ArrayReceiver}
 use Rattle.hy_check.specs.Postfix.{Before, Has, Name, Member, none, Seen, FieldStep, PartStep, NameStep, CallStep, NoSuchStep, UnknownStep}
 use Rattle.hy_check.specs.Typing.{Around, seen, after}
 

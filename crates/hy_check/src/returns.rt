@@ -1,7 +1,7 @@
 // Paths through bodies that come to their end without a result.
 ghost use Rattle.std.specs.Prelude.{◌≡◌, ◌&&◌, is_some, map, flat_map};
 ghost use Rattle.hy_tree.specs.Denotes.{stmt_of, stmts_of, block_of, branches_of, else_of, callable_of, variant_of, member_of, decl_of, decl_kind_of};
-ghost use Rattle.hy_check.specs.Declarations.{Source};
+ghost use Rattle.hy_signatures.specs.Declarations.{Source};
 ghost use Rattle.hy_check.specs.Noted.{after};
 ghost use Rattle.hy_check.specs.Phrases.{body_of};
 ghost use Rattle.hy_check.specs.Refusals as refusals;

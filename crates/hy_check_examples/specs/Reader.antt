@@ -16,7 +16,7 @@ use Rattle.hy_tree.specs.Names.{or}
 use Rattle.hy_tree.specs.Numbers.{number_program}
 use Rattle.hy_tree.specs.Tree as T
 use Rattle.hy_tree.specs.declared.operator.Mode.{Mode}
-use Rattle.hy_check.specs.Declarations.{source_of}
+use Rattle.hy_signatures.specs.Declarations.{source_of}
 use Rattle.hy_check.specs.Phrases.{Phrase, AnExpr, AStep, phrases}
 use Rattle.hy_check.specs.Places.{Place, Root, place_of}
 use Rattle.hy_check.specs.Postfix.{Seen, CallStep}

@@ -1,5 +1,5 @@
 use Rattle.hy_tree.specs.Denotes.{variant_of, callable_of}
-use Rattle.hy_check.specs.Declarations.{Source}
+use Rattle.hy_signatures.specs.Declarations.{Source}
 use Rattle.hy_check.specs.Refusals as refusals
 use Rattle.hy_check.proofs.Lists.{HasMet}
 use Rattle.hy_check.proofs.returns.check_callable.Given as goal

@@ -1,5 +1,0 @@
-use Rattle.std.proofs.Common.{refl}
-use Rattle.hy_check.proofs.owners.Owner.new.Goals as goal
-
-pub returns : goal.returns
-returns c table source = record { members = c.new.ensures table source; copyable = refl }

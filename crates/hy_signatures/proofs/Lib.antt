@@ -1,0 +1,10 @@
+pub mod CallableTables
+pub mod CopyTables
+pub mod Equality
+pub mod Keys
+pub mod MatchedTypes
+pub mod MemberTables
+pub mod Numbering
+pub mod OwnerTables
+pub mod ParameterTables
+pub mod TraitTables

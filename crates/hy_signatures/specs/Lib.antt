@@ -1,0 +1,16 @@
+pub mod Basics
+pub mod CallablesShown
+pub mod CopyablesShown
+pub mod Declarations
+pub mod MembersShown
+pub mod NamedShown
+pub mod Numbered
+pub mod Operators
+pub mod OwnersShown
+pub mod PlainTypes
+pub mod Shown
+pub mod Signatures
+pub mod SignaturesShown
+pub mod SolutionShown
+pub mod TraitsShown
+pub mod WantedShown
