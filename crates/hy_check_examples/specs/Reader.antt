@@ -122,17 +122,17 @@ tree_of tokens = run (length tokens) start tokens
 pub data Outcome : Type 0 where
   -- it is no program: the machine stops before so many tokens
   NoProgram : (left : ℕ) → Outcome
-  -- a rule on names is broken
-  BreaksNames : Outcome
-  -- a rule on types is broken, of all of which this is the first
+  -- a rule is broken, of all of which this is the first; rules on names come before rules on types
   Refused : Rule → Span → Outcome
-  -- no rule on types is broken
+  -- no rule on names or types is broken
   Sound : Outcome
 
-abbrev pub breaks_names : List Finding → Bool
-breaks_names [] = false
-breaks_names (Stands node meaning ∷ more) = breaks_names more
-breaks_names (Broken rule span ∷ more) = true
+abbrev pub sooner_name : Finding → Option Refusal → Option Refusal
+sooner_name (Stands node meaning) first = first
+sooner_name (Broken rule span) first = sooner first (record { rule = rule; span = span })
+
+abbrev pub first_name : List Finding → Option Refusal
+first_name all = after sooner_name all None
 
 abbrev pub first_of : List Refusal → Option Refusal
 first_of all = after (λ f first. sooner first f) all None
@@ -142,7 +142,7 @@ refused None = Sound
 refused (Some f) = Refused f.rule f.span
 
 abbrev pub judged : T.Program → Outcome
-judged p = cond (breaks_names (findings p)) BreaksNames (refused (first_of (refusals p)))
+judged p = refused (or (first_name (findings p)) (first_of (refusals p)))
 
 abbrev pub outcome_of : Result T.Program ℕ → Outcome
 outcome_of (Err left) = NoProgram left

@@ -1,4 +1,4 @@
--- Small programs and the first rule on types that each breaks.
+-- Small programs and the first rule on names or types that each breaks.
 use Rattle.std.specs.Prelude.{◌≡◌, ℕ, List, [], ◌∷◌, ◌++◌, Some, codes}
 use Rattle.hy_base.specs.declared.refusal.Rule.{Rule}
 use Rattle.hy_tree.specs.declared.operator.Mode.{Mode}
@@ -15,6 +15,45 @@ Refuses rule (text ∷ more) = (outcome text ≡ Refused rule (wanted text)) × 
 abbrev pub Accepts : List (List ℕ) → Type 0
 Accepts [] = Unit {0}
 Accepts (text ∷ more) = (outcome text ≡ Sound) × Accepts more
+
+-- NAMES
+
+abbrev pub unknown_names : List (List ℕ)
+unknown_names =
+    codes "fun main() { print(«y») }"
+    ∷ codes "fun main() { if true { var x = 2 }; print(«x») }"
+    ∷ codes "fun main() { var x = «x» }"
+    ∷ codes "type C { var v: Int subscript at(_ i: Int): Int { set(n) { v = n } let { yield «n» } } } fun main() {}"
+    ∷ codes "fun f<T>(_ x: T) { print(«T») } fun main() {}"
+    ∷ codes "type A { var n: Int fun f() { «g»() } fun g() {} } fun main() {}"
+    ∷ []
+
+abbrev pub declared_twice : List (List ℕ)
+declared_twice =
+    codes "fun main() { var x = 1; var «x» = 2 }"
+    ∷ codes "fun f(_ x: Int) -> Int { return 1 } subscript «f»(_ x: Int): Int { yield x } fun main() {}"
+    ∷ codes "type A { fun a(_ x: Int) {} var «a»: Int } fun main() {}"
+    ∷ codes "conformance A: Movable { fun f() {} } type A { fun «f»() {} } fun main() {}"
+    ∷ codes "trait N { fun «copy»() -> Int } fun main() {}"
+    ∷ []
+
+abbrev pub unknown_types : List (List ℕ)
+unknown_types = codes "fun f(_ x: «Foo») {} fun main() {}" ∷ []
+
+abbrev pub unknown_members : List (List ℕ)
+unknown_members = codes "fun main() { print((1).«foo») }" ∷ []
+
+abbrev pub without_main : List (List ℕ)
+without_main = codes "«»" ∷ []
+
+-- names in blocks of their own, and a function with the name of a type
+abbrev pub named_again : List (List ℕ)
+named_again =
+    codes "fun main() { var x = 1; if true { var x = 2; print(x) }; print(x) }"
+    ∷ codes "type P { var a: Int } fun P(b x: Int) -> P { return P(a: x.copy()) } fun main() { print(P(b: 1).a) }"
+    ∷ []
+
+-- TYPES
 
 abbrev pub operands : List (List ℕ)
 operands =
@@ -65,7 +104,7 @@ calls =
     ∷ codes "fun f(_ x: Int) {} fun main() { «(f())» }"
     ∷ codes "fun f(a x: Int) {} fun main() { «f(b: 1)» }"
     ∷ codes "fun f() {} fun main() { «f[]» }"
-    ∷ codes "fun g() {} fun main() { «g» }"
+    ∷ codes "fun g(_ x: Int) {} fun main() { «g»; g(); g(a: 1); g[1]; g(1) }"
     ∷ codes "fun main() { print(«Int») }"
     ∷ codes "type P { var x: Int var y: Int } fun main() { var p = «P(y: 1, x: 2)» }"
     ∷ codes "type A { var n: Int } type B { var m: Int } fun main() { var b = B(m: 1); print(«b.n[1]») }"

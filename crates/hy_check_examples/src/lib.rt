@@ -1,5 +1,5 @@
-//! Worked examples of the rules on types: small programs, each with the first rule that it breaks, computed by the definitions.
-//! The functions do nothing; their contracts are tables. `docs/TYPING.md` has the rules.
+//! Worked examples of the rules on names and types: small programs, each with the first rule that it breaks, computed by the
+//! definitions. The functions do nothing; their contracts are tables. `docs/NAMES.md` and `docs/TYPING.md` have the rules.
 #![tactic(auto)]
 
 ghost use Rattle.hy_base.specs.declared.refusal.Rule.TheVariants as rule;
@@ -8,6 +8,16 @@ ghost use Rattle.hy_types.specs.Types.{Int, Tuple, End};
 ghost use Rattle.hy_check.specs.Places.{Temporary, Itself};
 ghost use Rattle.hy_check_examples.specs.Programs.{programs};
 ghost use Rattle.hy_check_examples.specs.Rows as row;
+
+/// Names that are not declared, declared twice, or declared again in a block of their own.
+pub fn names_are_declared_once()
+    ensures unknown { row.Refuses rule.N1 row.unknown_names }
+    ensures twice { row.Refuses rule.N2 row.declared_twice }
+    ensures types { row.Refuses rule.N3 row.unknown_types }
+    ensures members { row.Refuses rule.N4 row.unknown_members }
+    ensures main { row.Refuses rule.N5 row.without_main }
+    ensures again { row.Accepts row.named_again }
+{}
 
 /// What is wanted of operands and conditions.
 pub fn operands_have_types()

@@ -8,6 +8,5 @@ pub mod Inside
 pub mod Folds
 pub mod FamilyKeys
 pub mod Members
-mod Rows
 pub mod NodesFound
 pub mod FoundTable

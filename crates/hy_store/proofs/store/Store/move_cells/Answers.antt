@@ -1,6 +1,8 @@
-use Rattle.std.proofs.Common.{◌∙◌, ap, not, sym}
+use Rattle.std.proofs.Common.{◌∙◌, ℕ, ap, not, sym}
+use Rattle.hy_object.specs.declared.instr.Place.{Place}
 use Rattle.hy_object.specs.declared.stuck.Kind.TheVariants as kind
 use Rattle.hy_object.specs.Checks.{Reach, check, is_nameless, is_whole, may_write, meets, next, reach, transfers}
+use Rattle.hy_object.specs.States.{State}
 use Rattle.hy_store.specs.Executes.{MayRunOut}
 use Rattle.hy_store.specs.Represents.{represented}
 use Rattle.hy_store.proofs.Counted.{meets_is}
@@ -8,141 +10,82 @@ use Rattle.hy_store.proofs.Following.{checked, told_halt, out_of_memory}
 use Rattle.hy_store.proofs.Storing.{writes_moved}
 use Rattle.hy_store.proofs.store.Store.move_cells.Goals as goal
 
+-- the checks of a move to `x` from `y`, each with those after it
+abbrev from_lost : State → (x y : Reach) → State
+from_lost s x y = check s kind.Lost (is_nameless s x.range) (transfers (next s) y.range x.range)
+
+abbrev from_unset : State → (x y : Reach) → State
+from_unset s x y = check s kind.Unset (is_whole s y.range) (from_lost s x y)
+
+abbrev from_taking : State → (x y : Reach) → State
+from_taking s x y = check s kind.Access (may_write s y) (from_unset s x y)
+
+abbrev from_range : State → (x y : Reach) → State
+from_range s x y = check s kind.Range (not (meets x.range y.range)) (from_taking s x y)
+
+abbrev from_place : State → Place → (words : ℕ) → Reach → State
+from_place s from words x = reach s from words (from_range s x)
+
+abbrev from_write : State → Place → (words : ℕ) → Reach → State
+from_write s from words x = check s kind.Access (may_write s x) (from_place s from words x)
+
 pub returns-in_err-x : goal.returns-in_err-x
-returns-in_err-x c =
-    told_halt MayRunOut _ _ _ _ _ _ c.from_residual.ensures.1 (λ g s represents. c.in_err-x.ensures.checks g s represents
-    (λ x. check s kind.Access (may_write s x)
-    (reach s c.args.from c.args.words (λ y. check s kind.Range (not (meets x.range y.range))
-    (check s kind.Access (may_write s y)
-    (check s kind.Unset (is_whole s y.range) (check s kind.Lost (is_nameless s x.range) (transfers (next s) y.range x.range))))))))
+returns-in_err-x c = told_halt MayRunOut _ _ _ _ _ _ c.from_residual.ensures.1 (λ g s represents.
+    c.in_err-x.ensures.checks g s represents (from_write s c.args.from c.args.words))
 
 pub returns-in_err-check : goal.returns-in_err-check
-returns-in_err-check c = told_halt MayRunOut _ _ _ _ _ _ c.from_residual-in_err-check.ensures.1 (λ g s represents. let x : Reach =
-    represented g s c.in_ok-x.x in
-    c.in_ok-x.ensures.checks g s represents
-    (λ x. check s kind.Access (may_write s x)
-    (reach s c.args.from c.args.words (λ y. check s kind.Range (not (meets x.range y.range))
-    (check s kind.Access (may_write s y)
-    (check s kind.Unset (is_whole s y.range) (check s kind.Lost (is_nameless s x.range) (transfers (next s) y.range x.range)))))))
-    ∙ checked s kind.Access _ _
-    (reach s c.args.from c.args.words (λ y. check s kind.Range (not (meets x.range y.range))
-    (check s kind.Access (may_write s y)
-    (check s kind.Unset (is_whole s y.range) (check s kind.Lost (is_nameless s x.range) (transfers (next s) y.range x.range)))))) _
-    (c.may_write.ensures s g.name represents.opened.told) (c.in_err-check.ensures s _))
+returns-in_err-check c = told_halt MayRunOut _ _ _ _ _ _ c.from_residual-in_err-check.ensures.1 (λ g s represents.
+    let x : Reach = represented g s c.in_ok-x.x in
+    c.in_ok-x.ensures.checks g s represents (from_write s c.args.from c.args.words)
+    ∙ checked s kind.Access _ _ (from_place s c.args.from c.args.words x) _ (c.may_write.ensures s g.name represents.opened.told) (c.in_err-check.ensures s _))
 
 pub returns-in_err-y : goal.returns-in_err-y
-returns-in_err-y c = told_halt MayRunOut _ _ _ _ _ _ c.from_residual-in_err-y.ensures.1 (λ g s represents. let x : Reach = represented g s c.in_ok-x.x in
-    c.in_ok-x.ensures.checks g s represents
-    (λ x. check s kind.Access (may_write s x)
-    (reach s c.args.from c.args.words (λ y. check s kind.Range (not (meets x.range y.range))
-    (check s kind.Access (may_write s y)
-    (check s kind.Unset (is_whole s y.range) (check s kind.Lost (is_nameless s x.range) (transfers (next s) y.range x.range)))))))
-    ∙ checked s kind.Access _ _
-    (reach s c.args.from c.args.words (λ y. check s kind.Range (not (meets x.range y.range))
-    (check s kind.Access (may_write s y)
-    (check s kind.Unset (is_whole s y.range) (check s kind.Lost (is_nameless s x.range) (transfers (next s) y.range x.range)))))) _
-    (c.may_write.ensures s g.name represents.opened.told) (c.in_ok-check.ensures s _)
-    ∙ c.in_err-y.ensures.checks g s represents (λ y. check s kind.Range (not (meets x.range y.range))
-    (check s kind.Access (may_write s y)
-    (check s kind.Unset (is_whole s y.range) (check s kind.Lost (is_nameless s x.range) (transfers (next s) y.range x.range))))))
+returns-in_err-y c = told_halt MayRunOut _ _ _ _ _ _ c.from_residual-in_err-y.ensures.1 (λ g s represents.
+    let x : Reach = represented g s c.in_ok-x.x in
+    c.in_ok-x.ensures.checks g s represents (from_write s c.args.from c.args.words)
+    ∙ checked s kind.Access _ _ (from_place s c.args.from c.args.words x) _ (c.may_write.ensures s g.name represents.opened.told) (c.in_ok-check.ensures s _)
+    ∙ c.in_err-y.ensures.checks g s represents (from_range s x))
 
 pub returns-in_err-check-2 : goal.returns-in_err-check-2
-returns-in_err-check-2 c = told_halt MayRunOut _ _ _ _ _ _ c.from_residual-in_err-check-2.ensures.1 (λ g s represents. let x : Reach =
-    represented g s c.in_ok-x.x in
+returns-in_err-check-2 c = told_halt MayRunOut _ _ _ _ _ _ c.from_residual-in_err-check-2.ensures.1 (λ g s represents.
+    let x : Reach = represented g s c.in_ok-x.x in
     let y : Reach = represented g s c.in_ok-y.y in
-    c.in_ok-x.ensures.checks g s represents
-    (λ x. check s kind.Access (may_write s x)
-    (reach s c.args.from c.args.words (λ y. check s kind.Range (not (meets x.range y.range))
-    (check s kind.Access (may_write s y)
-    (check s kind.Unset (is_whole s y.range) (check s kind.Lost (is_nameless s x.range) (transfers (next s) y.range x.range)))))))
-    ∙ checked s kind.Access _ _
-    (reach s c.args.from c.args.words (λ y. check s kind.Range (not (meets x.range y.range))
-    (check s kind.Access (may_write s y)
-    (check s kind.Unset (is_whole s y.range) (check s kind.Lost (is_nameless s x.range) (transfers (next s) y.range x.range)))))) _
-    (c.may_write.ensures s g.name represents.opened.told) (c.in_ok-check.ensures s _)
-    ∙ c.in_ok-y.ensures.checks g s represents (λ y. check s kind.Range (not (meets x.range y.range))
-    (check s kind.Access (may_write s y)
-    (check s kind.Unset (is_whole s y.range) (check s kind.Lost (is_nameless s x.range) (transfers (next s) y.range x.range)))))
-    ∙ checked s kind.Range _ _
-    (check s kind.Access (may_write s y)
-    (check s kind.Unset (is_whole s y.range) (check s kind.Lost (is_nameless s x.range) (transfers (next s) y.range x.range)))) _
-    (ap not (meets_is _ _ _ c.meets.ensures)) (c.in_err-check-2.ensures s _))
+    c.in_ok-x.ensures.checks g s represents (from_write s c.args.from c.args.words)
+    ∙ checked s kind.Access _ _ (from_place s c.args.from c.args.words x) _ (c.may_write.ensures s g.name represents.opened.told) (c.in_ok-check.ensures s _)
+    ∙ c.in_ok-y.ensures.checks g s represents (from_range s x)
+    ∙ checked s kind.Range _ _ (from_taking s x y) _ (ap not (meets_is _ _ _ c.meets.ensures)) (c.in_err-check-2.ensures s _))
 
 pub returns-in_err-check-3 : goal.returns-in_err-check-3
-returns-in_err-check-3 c = told_halt MayRunOut _ _ _ _ _ _ c.from_residual-in_err-check-3.ensures.1 (λ g s represents. let x : Reach =
-    represented g s c.in_ok-x.x in
+returns-in_err-check-3 c = told_halt MayRunOut _ _ _ _ _ _ c.from_residual-in_err-check-3.ensures.1 (λ g s represents.
+    let x : Reach = represented g s c.in_ok-x.x in
     let y : Reach = represented g s c.in_ok-y.y in
-    c.in_ok-x.ensures.checks g s represents
-    (λ x. check s kind.Access (may_write s x)
-    (reach s c.args.from c.args.words (λ y. check s kind.Range (not (meets x.range y.range))
-    (check s kind.Access (may_write s y)
-    (check s kind.Unset (is_whole s y.range) (check s kind.Lost (is_nameless s x.range) (transfers (next s) y.range x.range)))))))
-    ∙ checked s kind.Access _ _
-    (reach s c.args.from c.args.words (λ y. check s kind.Range (not (meets x.range y.range))
-    (check s kind.Access (may_write s y)
-    (check s kind.Unset (is_whole s y.range) (check s kind.Lost (is_nameless s x.range) (transfers (next s) y.range x.range)))))) _
-    (c.may_write.ensures s g.name represents.opened.told) (c.in_ok-check.ensures s _)
-    ∙ c.in_ok-y.ensures.checks g s represents (λ y. check s kind.Range (not (meets x.range y.range))
-    (check s kind.Access (may_write s y)
-    (check s kind.Unset (is_whole s y.range) (check s kind.Lost (is_nameless s x.range) (transfers (next s) y.range x.range)))))
-    ∙ checked s kind.Range _ _
-    (check s kind.Access (may_write s y)
-    (check s kind.Unset (is_whole s y.range) (check s kind.Lost (is_nameless s x.range) (transfers (next s) y.range x.range)))) _
-    (ap not (meets_is _ _ _ c.meets.ensures)) (c.in_ok-check-2.ensures s _)
-    ∙ checked s kind.Access _ _ (check s kind.Unset (is_whole s y.range) (check s kind.Lost (is_nameless s x.range) (transfers (next s) y.range x.range))) _
-    (c.may_write-2.ensures s g.name represents.opened.told) (c.in_err-check-3.ensures s _))
+    c.in_ok-x.ensures.checks g s represents (from_write s c.args.from c.args.words)
+    ∙ checked s kind.Access _ _ (from_place s c.args.from c.args.words x) _ (c.may_write.ensures s g.name represents.opened.told) (c.in_ok-check.ensures s _)
+    ∙ c.in_ok-y.ensures.checks g s represents (from_range s x)
+    ∙ checked s kind.Range _ _ (from_taking s x y) _ (ap not (meets_is _ _ _ c.meets.ensures)) (c.in_ok-check-2.ensures s _)
+    ∙ checked s kind.Access _ _ (from_unset s x y) _ (c.may_write-2.ensures s g.name represents.opened.told) (c.in_err-check-3.ensures s _))
 
 pub returns-in_err-check-4 : goal.returns-in_err-check-4
-returns-in_err-check-4 c = told_halt MayRunOut _ _ _ _ _ _ c.from_residual-in_err-check-4.ensures.1 (λ g s represents. let x : Reach =
-    represented g s c.in_ok-x.x in
+returns-in_err-check-4 c = told_halt MayRunOut _ _ _ _ _ _ c.from_residual-in_err-check-4.ensures.1 (λ g s represents.
+    let x : Reach = represented g s c.in_ok-x.x in
     let y : Reach = represented g s c.in_ok-y.y in
-    c.in_ok-x.ensures.checks g s represents
-    (λ x. check s kind.Access (may_write s x)
-    (reach s c.args.from c.args.words (λ y. check s kind.Range (not (meets x.range y.range))
-    (check s kind.Access (may_write s y)
-    (check s kind.Unset (is_whole s y.range) (check s kind.Lost (is_nameless s x.range) (transfers (next s) y.range x.range)))))))
-    ∙ checked s kind.Access _ _
-    (reach s c.args.from c.args.words (λ y. check s kind.Range (not (meets x.range y.range))
-    (check s kind.Access (may_write s y)
-    (check s kind.Unset (is_whole s y.range) (check s kind.Lost (is_nameless s x.range) (transfers (next s) y.range x.range)))))) _
-    (c.may_write.ensures s g.name represents.opened.told) (c.in_ok-check.ensures s _)
-    ∙ c.in_ok-y.ensures.checks g s represents (λ y. check s kind.Range (not (meets x.range y.range))
-    (check s kind.Access (may_write s y)
-    (check s kind.Unset (is_whole s y.range) (check s kind.Lost (is_nameless s x.range) (transfers (next s) y.range x.range)))))
-    ∙ checked s kind.Range _ _
-    (check s kind.Access (may_write s y)
-    (check s kind.Unset (is_whole s y.range) (check s kind.Lost (is_nameless s x.range) (transfers (next s) y.range x.range)))) _
-    (ap not (meets_is _ _ _ c.meets.ensures)) (c.in_ok-check-2.ensures s _)
-    ∙ checked s kind.Access _ _ (check s kind.Unset (is_whole s y.range) (check s kind.Lost (is_nameless s x.range) (transfers (next s) y.range x.range))) _
-    (c.may_write-2.ensures s g.name represents.opened.told) (c.in_ok-check-3.ensures s _)
-    ∙ checked s kind.Unset _ _ (check s kind.Lost (is_nameless s x.range) (transfers (next s) y.range x.range)) _ (c.is_whole.ensures g s represents)
-    (c.in_err-check-4.ensures s _))
+    c.in_ok-x.ensures.checks g s represents (from_write s c.args.from c.args.words)
+    ∙ checked s kind.Access _ _ (from_place s c.args.from c.args.words x) _ (c.may_write.ensures s g.name represents.opened.told) (c.in_ok-check.ensures s _)
+    ∙ c.in_ok-y.ensures.checks g s represents (from_range s x)
+    ∙ checked s kind.Range _ _ (from_taking s x y) _ (ap not (meets_is _ _ _ c.meets.ensures)) (c.in_ok-check-2.ensures s _)
+    ∙ checked s kind.Access _ _ (from_unset s x y) _ (c.may_write-2.ensures s g.name represents.opened.told) (c.in_ok-check-3.ensures s _)
+    ∙ checked s kind.Unset _ _ (from_lost s x y) _ (c.is_whole.ensures g s represents) (c.in_err-check-4.ensures s _))
 
 pub returns-in_err-check-5 : goal.returns-in_err-check-5
-returns-in_err-check-5 c = told_halt MayRunOut _ _ _ _ _ _ c.from_residual-in_err-check-5.ensures.1 (λ g s represents. let x : Reach =
-    represented g s c.in_ok-x.x in
+returns-in_err-check-5 c = told_halt MayRunOut _ _ _ _ _ _ c.from_residual-in_err-check-5.ensures.1 (λ g s represents.
+    let x : Reach = represented g s c.in_ok-x.x in
     let y : Reach = represented g s c.in_ok-y.y in
-    c.in_ok-x.ensures.checks g s represents
-    (λ x. check s kind.Access (may_write s x)
-    (reach s c.args.from c.args.words (λ y. check s kind.Range (not (meets x.range y.range))
-    (check s kind.Access (may_write s y)
-    (check s kind.Unset (is_whole s y.range) (check s kind.Lost (is_nameless s x.range) (transfers (next s) y.range x.range)))))))
-    ∙ checked s kind.Access _ _
-    (reach s c.args.from c.args.words (λ y. check s kind.Range (not (meets x.range y.range))
-    (check s kind.Access (may_write s y)
-    (check s kind.Unset (is_whole s y.range) (check s kind.Lost (is_nameless s x.range) (transfers (next s) y.range x.range)))))) _
-    (c.may_write.ensures s g.name represents.opened.told) (c.in_ok-check.ensures s _)
-    ∙ c.in_ok-y.ensures.checks g s represents (λ y. check s kind.Range (not (meets x.range y.range))
-    (check s kind.Access (may_write s y)
-    (check s kind.Unset (is_whole s y.range) (check s kind.Lost (is_nameless s x.range) (transfers (next s) y.range x.range)))))
-    ∙ checked s kind.Range _ _
-    (check s kind.Access (may_write s y)
-    (check s kind.Unset (is_whole s y.range) (check s kind.Lost (is_nameless s x.range) (transfers (next s) y.range x.range)))) _
-    (ap not (meets_is _ _ _ c.meets.ensures)) (c.in_ok-check-2.ensures s _)
-    ∙ checked s kind.Access _ _ (check s kind.Unset (is_whole s y.range) (check s kind.Lost (is_nameless s x.range) (transfers (next s) y.range x.range))) _
-    (c.may_write-2.ensures s g.name represents.opened.told) (c.in_ok-check-3.ensures s _)
-    ∙ checked s kind.Unset _ _ (check s kind.Lost (is_nameless s x.range) (transfers (next s) y.range x.range)) _ (c.is_whole.ensures g s represents)
-    (c.in_ok-check-4.ensures s _)
+    c.in_ok-x.ensures.checks g s represents (from_write s c.args.from c.args.words)
+    ∙ checked s kind.Access _ _ (from_place s c.args.from c.args.words x) _ (c.may_write.ensures s g.name represents.opened.told) (c.in_ok-check.ensures s _)
+    ∙ c.in_ok-y.ensures.checks g s represents (from_range s x)
+    ∙ checked s kind.Range _ _ (from_taking s x y) _ (ap not (meets_is _ _ _ c.meets.ensures)) (c.in_ok-check-2.ensures s _)
+    ∙ checked s kind.Access _ _ (from_unset s x y) _ (c.may_write-2.ensures s g.name represents.opened.told) (c.in_ok-check-3.ensures s _)
+    ∙ checked s kind.Unset _ _ (from_lost s x y) _ (c.is_whole.ensures g s represents) (c.in_ok-check-4.ensures s _)
     ∙ checked s kind.Lost _ _ (transfers (next s) y.range x.range) _ (c.is_nameless.ensures g s represents) (c.in_err-check-5.ensures s _))
 
 pub returns-in_err-transfer : goal.returns-in_err-transfer
@@ -152,28 +95,14 @@ pub returns : goal.returns
 returns c =
     let x = c.in_ok-x.ensures.reached in
     let y = c.in_ok-y.ensures.reached in
-    writes_moved _ _ c.in_ok-y.y.range c.in_ok-x.x.range c.in_ok-transfer.ensures y.cells x.cells (x.len ∙ sym y.len) _ _ (λ g s represents. let x : Reach =
-    represented g s c.in_ok-x.x in let y : Reach = represented g s c.in_ok-y.y in
-    c.in_ok-x.ensures.checks g s represents
-    (λ x. check s kind.Access (may_write s x)
-    (reach s c.args.from c.args.words (λ y. check s kind.Range (not (meets x.range y.range))
-    (check s kind.Access (may_write s y)
-    (check s kind.Unset (is_whole s y.range) (check s kind.Lost (is_nameless s x.range) (transfers (next s) y.range x.range)))))))
-    ∙ checked s kind.Access _ _
-    (reach s c.args.from c.args.words (λ y. check s kind.Range (not (meets x.range y.range))
-    (check s kind.Access (may_write s y)
-    (check s kind.Unset (is_whole s y.range) (check s kind.Lost (is_nameless s x.range) (transfers (next s) y.range x.range)))))) _
-    (c.may_write.ensures s g.name represents.opened.told) (c.in_ok-check.ensures s _)
-    ∙ c.in_ok-y.ensures.checks g s represents (λ y. check s kind.Range (not (meets x.range y.range))
-    (check s kind.Access (may_write s y)
-    (check s kind.Unset (is_whole s y.range) (check s kind.Lost (is_nameless s x.range) (transfers (next s) y.range x.range)))))
-    ∙ checked s kind.Range _ _
-    (check s kind.Access (may_write s y)
-    (check s kind.Unset (is_whole s y.range) (check s kind.Lost (is_nameless s x.range) (transfers (next s) y.range x.range)))) _
-    (ap not (meets_is _ _ _ c.meets.ensures)) (c.in_ok-check-2.ensures s _)
-    ∙ checked s kind.Access _ _
-    (check s kind.Unset (is_whole s y.range) (check s kind.Lost (is_nameless s x.range) (transfers (next s) y.range x.range))) _
-    (c.may_write-2.ensures s g.name represents.opened.told) (c.in_ok-check-3.ensures s _)
-    ∙ checked s kind.Unset _ _ (check s kind.Lost (is_nameless s x.range) (transfers (next s) y.range x.range)) _ (c.is_whole.ensures g s represents)
-    (c.in_ok-check-4.ensures s _)
+    writes_moved _ _ c.in_ok-y.y.range c.in_ok-x.x.range c.in_ok-transfer.ensures y.cells x.cells (x.len ∙ sym y.len) _ _
+    (λ g s represents.
+    let x : Reach = represented g s c.in_ok-x.x in
+    let y : Reach = represented g s c.in_ok-y.y in
+    c.in_ok-x.ensures.checks g s represents (from_write s c.args.from c.args.words)
+    ∙ checked s kind.Access _ _ (from_place s c.args.from c.args.words x) _ (c.may_write.ensures s g.name represents.opened.told) (c.in_ok-check.ensures s _)
+    ∙ c.in_ok-y.ensures.checks g s represents (from_range s x)
+    ∙ checked s kind.Range _ _ (from_taking s x y) _ (ap not (meets_is _ _ _ c.meets.ensures)) (c.in_ok-check-2.ensures s _)
+    ∙ checked s kind.Access _ _ (from_unset s x y) _ (c.may_write-2.ensures s g.name represents.opened.told) (c.in_ok-check-3.ensures s _)
+    ∙ checked s kind.Unset _ _ (from_lost s x y) _ (c.is_whole.ensures g s represents) (c.in_ok-check-4.ensures s _)
     ∙ checked s kind.Lost _ _ (transfers (next s) y.range x.range) _ (c.is_nameless.ensures g s represents) (c.in_ok-check-5.ensures s _))
