@@ -5,50 +5,50 @@ use Rattle.hy_grammar.specs.Nodes as node
 use Rattle.hy_check_examples.specs.Reader.{outcome, wanted}
 use Rattle.hy_check_examples.proofs.names_are_declared_once.Goals as goal
 
-pub unknown : goal.unknown
+pub returns-clause-unknown : goal.returns-clause-unknown
 unfolding step finish run outcome wanted prefixed node.named_type node.self_type node.array_type node.types node.number node.truth node.named
     node.self_value node.empty_array node.parts node.array node.if_else node.member_step node.part_step node.call_step node.index_step node.postfix
     node.unary node.marked node.chain node.block node.binding node.declare node.assign node.compound node.evaluate node.discard node.if_only node.if_block
     node.while node.return_nothing node.return_value node.leave node.proceed node.yield_value node.param node.plain_variant node.variant node.callable
     node.product node.trait node.conformance node.member node.decl node.program
-unknown c = (refl, (refl, (refl, (refl, (refl, (refl, tt))))))
+returns-clause-unknown c = (refl, (refl, (refl, (refl, (refl, (refl, tt))))))
 
-pub twice : goal.twice
+pub returns-clause-twice : goal.returns-clause-twice
 unfolding step finish run outcome wanted prefixed node.named_type node.self_type node.array_type node.types node.number node.truth node.named
     node.self_value node.empty_array node.parts node.array node.if_else node.member_step node.part_step node.call_step node.index_step node.postfix
     node.unary node.marked node.chain node.block node.binding node.declare node.assign node.compound node.evaluate node.discard node.if_only node.if_block
     node.while node.return_nothing node.return_value node.leave node.proceed node.yield_value node.param node.plain_variant node.variant node.callable
     node.product node.trait node.conformance node.member node.decl node.program
-twice c = (refl, (refl, (refl, (refl, (refl, tt)))))
+returns-clause-twice c = (refl, (refl, (refl, (refl, (refl, tt)))))
 
-pub types : goal.types
+pub returns-clause-types : goal.returns-clause-types
 unfolding step finish run outcome wanted prefixed node.named_type node.self_type node.array_type node.types node.number node.truth node.named
     node.self_value node.empty_array node.parts node.array node.if_else node.member_step node.part_step node.call_step node.index_step node.postfix
     node.unary node.marked node.chain node.block node.binding node.declare node.assign node.compound node.evaluate node.discard node.if_only node.if_block
     node.while node.return_nothing node.return_value node.leave node.proceed node.yield_value node.param node.plain_variant node.variant node.callable
     node.product node.trait node.conformance node.member node.decl node.program
-types c = (refl, tt)
+returns-clause-types c = (refl, tt)
 
-pub members : goal.members
+pub returns-clause-members : goal.returns-clause-members
 unfolding step finish run outcome wanted prefixed node.named_type node.self_type node.array_type node.types node.number node.truth node.named
     node.self_value node.empty_array node.parts node.array node.if_else node.member_step node.part_step node.call_step node.index_step node.postfix
     node.unary node.marked node.chain node.block node.binding node.declare node.assign node.compound node.evaluate node.discard node.if_only node.if_block
     node.while node.return_nothing node.return_value node.leave node.proceed node.yield_value node.param node.plain_variant node.variant node.callable
     node.product node.trait node.conformance node.member node.decl node.program
-members c = (refl, tt)
+returns-clause-members c = (refl, tt)
 
-pub main : goal.main
+pub returns-clause-main : goal.returns-clause-main
 unfolding step finish run outcome wanted prefixed node.named_type node.self_type node.array_type node.types node.number node.truth node.named
     node.self_value node.empty_array node.parts node.array node.if_else node.member_step node.part_step node.call_step node.index_step node.postfix
     node.unary node.marked node.chain node.block node.binding node.declare node.assign node.compound node.evaluate node.discard node.if_only node.if_block
     node.while node.return_nothing node.return_value node.leave node.proceed node.yield_value node.param node.plain_variant node.variant node.callable
     node.product node.trait node.conformance node.member node.decl node.program
-main c = (refl, tt)
+returns-clause-main c = (refl, tt)
 
-pub again : goal.again
+pub returns-clause-again : goal.returns-clause-again
 unfolding step finish run outcome wanted prefixed node.named_type node.self_type node.array_type node.types node.number node.truth node.named
     node.self_value node.empty_array node.parts node.array node.if_else node.member_step node.part_step node.call_step node.index_step node.postfix
     node.unary node.marked node.chain node.block node.binding node.declare node.assign node.compound node.evaluate node.discard node.if_only node.if_block
     node.while node.return_nothing node.return_value node.leave node.proceed node.yield_value node.param node.plain_variant node.variant node.callable
     node.product node.trait node.conformance node.member node.decl node.program
-again c = (refl, (refl, tt))
+returns-clause-again c = (refl, (refl, tt))
