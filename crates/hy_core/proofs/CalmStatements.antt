@@ -1,5 +1,6 @@
 -- Statements of a core that has a flow: each step is calm.
-use Rattle.std.proofs.Common.{◌≡◌, ◌≢◌, ℕ, suc, Bool, true, false, cond, if◌then◌else◌, List, [], ◌∷◌, ◌++◌, length, Option, Some, None, refl, sym, ap, ◌∙◌}
+use Rattle.std.proofs.Common.{◌≡◌, ◌≢◌, inl, inr, ℕ, suc, Bool, true, false, cond, if◌then◌else◌, List}
+use Rattle.std.proofs.Common.{[], ◌∷◌, ◌++◌, length, Option, Some, None, refl, sym, ap, ◌∙◌}
 use Rattle.std.proofs.Common.{subst}
 use Rattle.hy_base.specs.declared.numbers.IntegerType.TheVariants.{Int}
 use Rattle.hy_base.specs.declared.run.TrapKind.{TrapKind}
@@ -27,6 +28,7 @@ use Rattle.hy_core.specs.Flow.{IndexesOk, ReadOk, ChangeOk, StoreOk, GiveOk, Tak
 use Rattle.hy_core.specs.Flow.{set_to, stored_if, stored, FlowsInto, Stores, Computes, opened, LendOk}
 use Rattle.hy_core.specs.Flow.{come_back, Without, Closes, Slides, HandOk, HandsOk, come_from, held_by, TakesOk, all_given, Calls, Projects, IsLast}
 use Rattle.hy_core.specs.Flow.{TransfersBuilt, Around, NoLoop, InLoop, TransfersAll, Transfers, first_status, first, BodyFlows, HasFlow}
+use Rattle.hy_core.specs.Flow.{InitMap, IsEmpty, changed, counted, CountOk, compared, CompareOk, HasNoElements, retied}
 use Rattle.hy_core.specs.Flow as transfer
 use Rattle.hy_core.proofs.OpenPlaces.{Sound}
 use Rattle.hy_core.proofs.CalmWalks.{Slots, at, mem, over, stands, Good, GoodAt, View, exact_indexes, good_tell, good_some, good_trap, good_index}
@@ -46,6 +48,19 @@ stored_pass x g q = go (is_exact q.steps)
     go : (b : Bool) → Passes g (stored_if x g q b)
     go true = record { status = λ j. refl; open_places = λ e i. i }
     go false = passes_self g
+
+pub stored_as_pass : (x : Context) (c : InitMap) (g : FlowState) (q : Place) → Passes g (stored_as x c g q (is_exact q.steps))
+stored_as_pass x c g q = go (is_exact q.steps)
+  where
+    go : (b : Bool) → Passes g (stored_as x c g q b)
+    go true = record { status = λ j. refl; open_places = λ e i. i }
+    go false = passes_self g
+
+pub counted_pass : (x : Context) (g : FlowState) (to array : Place) → Passes g (counted x g to array)
+counted_pass x g to array = record { status = λ j. refl; open_places = λ e i. i }
+
+pub compared_pass : (x : Context) (g : FlowState) (to n : Place) → Passes g (compared x g to n)
+compared_pass x g to n = record { status = λ j. refl; open_places = λ e i. i }
 
 pub set_pass : (x : Context) (g : FlowState) (q : Place) (n : ℤ) → Passes g (set_to x g q n)
 set_pass x g q n = go (is_exact q.steps)
@@ -277,7 +292,7 @@ module _ (p : Setting) (signatures : ℕ → Signature) (c : Control) (slots : S
           tests s false = λ e k vals y. good_trap p TS e trap.Precondition s (mem slots vals)
 
     pushing : (from : List Place) (d : FlowState) → transfer.Two x from (λ array a. TakeOk x g a × ChangeOk x (given x g a) array
-        × FlowsInto x (given x g a) d) → Left d
+        × FlowsInto x (changed x (given x g a) array) d) → Left d
         → Always (λ e. with_two e from
         (λ array a. take p e a (λ e v. read_array p e array (λ e s vs. Perform (effect.Change s (Array (at_end vs v))) (Return e)))))
     pushing [] d t w e k = absurd t
@@ -286,9 +301,11 @@ module _ (p : Setting) (signatures : ℕ → Signature) (c : Control) (slots : S
     pushing (array ∷ (a ∷ [])) d t w e k =
         takes g (passes_self g) a _ t.0 (λ v. arrays (given x g a) (given_pass x g a) array _ t.1.indexes t.1.free (λ s vs e vals k y may.
         good_tell p TS (effect.Change s (Array (at_end vs v))) (Return e) (mem slots vals) y may
-        (λ y. fine d (passes_on g (given x g a) d (given_pass x g a) (flows_pass x _ d t.2)) w e k _ y))) e k
+        (λ y. fine d (passes_on g (given x g a) d (given_pass x g a)
+        (passes_on (given x g a) (stored x (given x g a) array) d (stored_pass x (given x g a) array) (flows_pass x _ d t.2))) w e k _ y))) e k
 
-    popping : (to : Option Place) (from : List Place) (spans : List ℕ) (d : FlowState) → transfer.One x from (λ array. ChangeOk x g array × Stores x g to d)
+    popping : (to : Option Place) (from : List Place) (spans : List ℕ) (d : FlowState)
+        → transfer.One x from (λ array. ChangeOk x g array × Stores x (changed x g array) to d)
         → Left d
         → Always (λ e. with_one e from (λ array. with_one e spans (λ s. read_array p e array (λ e at vs. pop p e to s at vs))))
     popping to [] spans d t w e k = absurd t
@@ -301,10 +318,10 @@ module _ (p : Setting) (signatures : ℕ → Signature) (c : Control) (slots : S
         pops s at No e vals k y may = good_trap p TS e trap.Empty s (mem slots vals)
         pops s at (And v vs) e vals k y may =
             good_tell p TS (effect.Change at (Array (popped v vs).rest)) (store_to p e to (popped v vs).last) (mem slots vals) y may
-            (λ y. stores g (passes_self g) to d t.1 w (popped v vs).last e k _ y)
+            (λ y. stores (stored x g array) (stored_pass x g array) to d t.1 w (popped v vs).last e k _ y)
 
     swapping : (from : List Place) (spans : List ℕ) (d : FlowState)
-        → transfer.Three x from (λ array a b. ReadOk x g a × ReadOk x g b × ChangeOk x g array × FlowsInto x g d) → Left d
+        → transfer.Three x from (λ array a b. ReadOk x g a × ReadOk x g b × ChangeOk x g array × FlowsInto x (changed x g array) d) → Left d
         → Always (λ e. with_three e from (λ array a b. with_two e spans (λ s t. swap p e array a b s t)))
     swapping [] spans d t w e k = absurd t
     swapping (array ∷ []) spans d t w e k = absurd t
@@ -315,15 +332,39 @@ module _ (p : Setting) (signatures : ℕ → Signature) (c : Control) (slots : S
         (λ s s'. numbers g (passes_self g) a _ t.0 (λ i. numbers g (passes_self g) b _ t.1
         (λ j. arrays g (passes_self g) array _ t.2.indexes t.2.free (λ at vs e vals k y may.
         good_index p TS e s 0 (index_in (many vs) i) _ (mem slots vals) (λ i _. good_index p TS e s' 0 (index_in (many vs) j) _ (mem slots vals) (λ j _.
-        good_tell p TS (effect.Change at (Array (swapped i j vs))) (Return e) (mem slots vals) y may (λ y. fine d (flows_pass x g d t.3) w e k _ y)))))) e k)
+        good_tell p TS (effect.Change at (Array (swapped i j vs))) (Return e) (mem slots vals) y may
+        (λ y. fine d (passes_on g (stored x g array) d (stored_pass x g array) (flows_pass x _ d t.3)) w e k _ y)))))) e k)
 
-    freeing : (from : List Place) (d : FlowState) → transfer.One x from (λ array. TakeOk x g array × FlowsInto x (given x g array) d) → Left d
+    freeing : (from : List Place) (d : FlowState) → transfer.One x from (λ array. TakeOk x g array
+        × FlowsInto x (given x g array) d × HasNoElements x g array) → Left d
         → Always (λ e. with_one e from (λ array. read_array p e array (λ e at vs. Perform (effect.Clear at) (Return e))))
     freeing [] d t w e k = absurd t
     freeing (array ∷ (b ∷ more)) d t w e k = λ vals s. over Stuck refl (λ e. absurd (cc))
     freeing (array ∷ []) d t w e k = arrays g (passes_self g) array _ (exact_indexes g array.steps t.0.give.exact) t.0.give.free (λ at vs e vals k y may.
         good_tell p TS (effect.Clear at) (Return e) (mem slots vals) y may
         (λ y. fine d (passes_on g (given x g array) d (given_pass x g array) (flows_pass x _ d t.1)) w e k _ y)) e k
+
+    making : (to : Option Place) (d : FlowState) → transfer.StoresAs x (λ q. IsEmpty) g to d → Left d → (v : Val) → Always (λ e. store_to p e to v)
+    making None d t w v = absurd t
+    making (Some to) d t w v = writes g (passes_self g) to v Return t.0
+        (fine d (passes_on g _ d (stored_as_pass x (λ q. IsEmpty) g to) (flows_pass x _ d t.1)) w)
+
+    -- what is told of an array changes nothing of what is open
+    counting_to : (to : Place) (from : List Place) (d : FlowState) → transfer.One x from (λ a. CountOk x g to a × FlowsInto x (counted x g to a) d) → Left d
+        → Always (λ e. with_one e from (λ array. read_array p e array (λ e s vs. store_to p e (Some to) (Number Int (pos (many vs))))))
+    counting_to to [] d t w e k = absurd t
+    counting_to to (a ∷ (b ∷ more)) d t w e k = λ vals s. over Stuck refl (λ e. absurd (cc))
+    counting_to to (a ∷ []) d t w e k = counts g (passes_self g) a _ t.0.read (λ s vs. writes g (passes_self g) to _ Return t.0.store
+        (fine d (passes_on g (counted x g to a) d (counted_pass x g to a) (flows_pass x _ d t.1)) w)) e k
+
+    comparing_to : (to : Place) (from : List Place) (d : FlowState) (f : Val → Val → Option Bool)
+        → transfer.Two x from (λ a b. CompareOk x g to a b × FlowsInto x (compared x g to b) d) → Left d → Always (λ e. compares p e (Some to) from f)
+    comparing_to to [] d f t w e k = absurd t
+    comparing_to to (a ∷ []) d f t w e k = absurd t
+    comparing_to to (a ∷ (b ∷ (z ∷ more))) d f t w e k = λ vals s. over Stuck refl (λ e. absurd (cc))
+    comparing_to to (a ∷ (b ∷ [])) d f t w e k = values g (passes_self g) a _ t.0.read_zero (λ v. values g (passes_self g) b _ t.0.read (λ u e k.
+        some_at e (f v u) _ (λ y. writes g (passes_self g) to (Truth y) Return t.0.store
+        (fine d (passes_on g (compared x g to b) d (compared_pass x g to b) (flows_pass x _ d t.1)) w) e k))) e k
 
     pub built_good : (o : Operator) (to : Option Place) (from : List Place) (spans : List ℕ) (d : FlowState) → TransfersBuilt x o to from g d → Left d
         → Always (λ e. built p e o to from spans)
@@ -335,14 +376,18 @@ module _ (p : Setting) (signatures : ℕ → Signature) (c : Control) (slots : S
     built_good Neg to from spans d t w = changes to from d t w spans _
     built_good (Convert u) to from spans d t w = changes to from d t w spans _
     built_good Eq to from spans d t w = comparing to from d t w _
-    built_good Lt to from spans d t w = comparing to from d t w _
+    built_good Lt to from spans d (inl t) w = comparing to from d t w _
+    built_good Lt None from spans d (inr t) w = absurd t
+    built_good Lt (Some to) from spans d (inr t) w = comparing_to to from d _ t w
     built_good Le to from spans d t w = comparing to from d t w _
     built_good Not to from spans d t w = inverts to from d t w
-    built_good NewArray to from spans d t w = store_of to from d t w (Array No)
+    built_good NewArray to from spans d t w = making to d t w (Array No)
     built_good Push to from spans d t w = pushing from d t w
     built_good Pop to from spans d t w = popping to from spans d t w
     built_good Swap to from spans d t w = swapping from spans d t w
-    built_good Count to from spans d t w = counting to from d t w
+    built_good Count to from spans d (inl t) w = counting to from d t w
+    built_good Count None from spans d (inr t) w = absurd t
+    built_good Count (Some to) from spans d (inr t) w = counting_to to from d t w
     built_good FreeArray to from spans d t w = freeing from d t.1 w
     built_good Print to from spans d t w = printing to from d t w
     built_good Read to from spans d t w = λ e k. one_span e spans _ (λ s. reading to from d t w s (read_line p.cut e.input) e k)

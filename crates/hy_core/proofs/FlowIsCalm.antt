@@ -384,8 +384,9 @@ module _ (p : Setting) (signatures : ℕ → Signature) (signs : (n : ℕ) → s
       fine_work p signatures c slots number g half others t.last w (flows_pass (context p signatures number c.now.fun) g t.last t.transfers) t.next
   goes_good c slots number g half others (Rest (Then s ss) w) t = let h = t.transfers in let is : IsShaped p.core c.now.fun s
       × ShapedAll p.core c.now.fun ss = t.shaped in
-      statement_good (with_work c (Rest ss w)) slots number g half others t.around s h.0 h.1 is.0
-      (record { around = t.around; last = t.last; transfers = h.2; shaped = is.1; outer = t.outer; next = t.next }) t.outer
+      statement_good (with_work c (Rest ss w)) slots number h.0 (half_pass slots (sleeper_of c.asleep) Runs c.now.id (length (lent_types c.now.fun)) g h.0
+      (flows_pass (context p signatures number c.now.fun) g h.0 h.2) half) others t.around s h.1 h.3 is.0
+      (record { around = t.around; last = t.last; transfers = h.4; shaped = is.1; outer = t.outer; next = t.next }) t.outer
   goes_good c slots number g half others (Loop head on body w) t =
       fine_work p signatures c slots number g half others t.first (Rest head (Test head on body w)) t.flows
       (record {

@@ -25,18 +25,23 @@ use Rattle.hy_core.specs.Flow.{IsLendable, IsFree, LendOk, come_back, ComesBack,
 use Rattle.hy_core.specs.Flow.{all_given, Calls, Projects, IsDropped, IsCopied, Frees, IsLeft, IsLast, TransfersBuilt, Around, NoLoop, InLoop, TransfersAll}
 use Rattle.hy_core.specs.Flow.{Transfers, first_status, first, BodyFlows, context_of, signatures_of, HasFlow, is_exact, way_of}
 use Rattle.hy_core.specs.FlowOf.{every, member, are_apart, way_eq, bool_eq, is_set_so, is_unset, is_doubtful, is_set_with, counts}
-use Rattle.hy_core.specs.FlowOf.{is_core, is_flags, holder_eq, open_place_eq, status_eq, is_own, is_open, in_local}
+use Rattle.hy_core.specs.FlowOf.{is_core, is_flags, holder_eq, open_place_eq, status_eq, is_own, is_open, in_local, is_known}
 use Rattle.hy_core.specs.FlowOf.{if_some, every_leaf, depth_of, Exits, goes_to, and_then, is_none, when, locals, each_local, each_open_place, is_shut}
 use Rattle.hy_core.specs.FlowOf.{may_read, may_write, may_open, indexes_ok, is_live, set_place, local_is, entered, no_array, read_ok, change_ok, store_ok}
 use Rattle.hy_core.specs.FlowOf.{give_ok, take_ok, flows_into, flows_in, meet, meet_exits, either, stores, computes, is_free, lendable, lend_ok, without}
 use Rattle.hy_core.specs.FlowOf.{comes_back, closed, closes, slid, slides, hand_ok, hands_ok, takes_ok, calls, projects, dropped, copied, frees, left}
 use Rattle.hy_core.specs.FlowOf.{is_last, built_flow, ends, condition_ok, follows, passes, loops, at_head, flow_all, flow_one, is_whole_flow, body_flows}
 use Rattle.hy_core.specs.FlowOf.{each_flows, has_flow, untied, is_flag, knows, becomes, joined, loop_from, after_pass, or_from}
+use Rattle.hy_core.specs.Flow.{IsEmpty, IsEmptyWithout, changed, CountOk, CompareOk, counted, compared, retied, HasNoElements, is_whole_local}
+use Rattle.hy_core.specs.FlowOf.{is_empty, is_empty_without, is_not_tied, there_and, has_no_parts, count_ok, compare_ok, has_array, is_nested, no_elements}
+use Rattle.hy_core.specs.FlowOf.{tried, without_ties, each_array}
+use Rattle.hy_core.specs.Typing.{IsArrayAt}
+use Rattle.hy_core.specs.Control.{parts_of}
 use Rattle.hy_core.proofs.FlowStates.{becomes_self, becomes_on}
 use Rattle.hy_core.proofs.CalmFrames.{at_local}
 use Rattle.hy_core.proofs.CalmStatements.{all_given_pass, come_from_pass}
-use Rattle.hy_core.proofs.FlowTests.{and_l, and_r, or_is, not_is, nat_not, way_is, bool_is, set_so_is, unset_is, known_is, doubtful_is}
-use Rattle.hy_core.proofs.FlowTests.{set_with_is, set_with_not, counts_is, holder_is, open_place_is, status_is, open_is}
+use Rattle.hy_core.proofs.FlowTests.{and_l, and_r, or_is, not_is, nat_not, way_is, bool_is, set_so_is, unset_is, known_is, doubtful_is, set_with_is}
+use Rattle.hy_core.proofs.FlowTests.{empty_is, empty_without_is, not_tied_is, leaf_form, counts_is, holder_is, open_place_is, status_is, open_is}
 use Rattle.hy_core.proofs.FlowTests.{in_local_is, apart_is, every_is, every_all, some_passes, member_not, if_some_is, leaf_is, each_sound, array_sound}
 
 -- CONDITIONS
@@ -166,11 +171,10 @@ module _ (x : Context) where
       array_sound x.core.types t (λ q. false) (if_some_is (place_type x.core.types x.fun p) _ t h e) q a in absurd (cc)
 
   untied_is : (g : FlowState) (f : ℕ) → untied x g f ≡ true → IsUntied x g f
-  untied_is g f h l t q e leaf = set_with_not f (g.init l q) (not_is (is_set_with f (g.init l q))
-      (leaf_is x.core.types (depth_of x.core.types) t (λ q. not (is_set_with f (g.init l q))) (if_some_is (local_type x.fun l) _ t
-      (below_is (locals x) (λ l. if_some (local_type x.fun l)
-      (λ t. every_leaf x.core.types (depth_of x.core.types) t (λ a q. not (is_set_with f (g.init l q)))))
-      x l h (local_there l t e)) e) q leaf))
+  untied_is g f h l t q e leaf = not_tied_is f (g.init l q)
+      (leaf_is x.core.types (depth_of x.core.types) t (λ q. is_not_tied f (g.init l q)) (if_some_is (local_type x.fun l) _ t
+      (below_is (locals x) (λ l. if_some (local_type x.fun l) (λ t. every_leaf x.core.types (depth_of x.core.types) t (λ a q. is_not_tied f (g.init l q))))
+      x l h (local_there l t e)) e) q leaf)
 
   read_is : (g : FlowState) (p : Place) → read_ok x g p ≡ true → ReadOk x g p
   read_is g p h =
@@ -195,7 +199,8 @@ module _ (x : Context) where
         free =
             write_at_is g p.local (still p.steps) (and_l (may_write x g p.local (still p.steps)) _ b);
         set =
-            set_is g p (and_r (may_write x g p.local (still p.steps)) _ b);
+            set_is g p (and_l (set_place x g p) _ (and_r (may_write x g p.local (still p.steps)) _ b));
+        untied = untied_is g p.local (and_r (set_place x g p) _ (and_r (may_write x g p.local (still p.steps)) _ b));
       }
 
   store_is : (g : FlowState) (p : Place) → store_ok x g p ≡ true → StoreOk x g p
@@ -261,8 +266,22 @@ module _ (x : Context) where
       by None e h = absurd (cc)
       by (Some t) e h = (t, e, flags (form x.core.types t) h)
 
-  knows_is : (g : FlowState) (f : ℕ) (b : Bool) → knows x g f b ≡ true → Knows x g f b
-  knows_is g f b h = (flag_is f (and_l (is_flag x f) _ h), known_is b (g.init f []) (and_r (is_flag x f) _ h))
+  knows_is : (g : FlowState) (l : ℕ) (b : Bool) → knows x g l b ≡ true → Knows x g l b
+  knows_is g l b h = by (local_type x.fun l) refl (and_l (there_and (local_type x.fun l) (λ t. has_no_parts (parts_of (form x.core.types t)))) _ h)
+    where
+      none : (ts : List TyId) → has_no_parts ts ≡ true → ts ≡ []
+      none [] h = refl
+      none (t ∷ ts) h = absurd (cc)
+
+      by : (o : Option TyId) → local_type x.fun l ≡ o → there_and o (λ t. has_no_parts (parts_of (form x.core.types t))) ≡ true → Knows x g l b
+      by None e q = absurd (cc)
+      by (Some t) e q = (
+        t,
+        e,
+        none (parts_of (form x.core.types t)) q,
+        known_is b (g.init l [])
+            (and_r (there_and (local_type x.fun l) (λ t. has_no_parts (parts_of (form x.core.types t)))) _ h),
+      )
 
   core_is : (s : Stage) → is_core s ≡ true → s ≡ Deinitialises
   core_is Deinitialises h = refl
@@ -273,11 +292,21 @@ module _ (x : Context) where
   becomes_is g s IsUnset h = unset_is s h
   becomes_is g s (IsKnown b) h = known_is b s h
   becomes_is g s IsDoubtful h = ⊎_elim (λ a. inl (doubtful_is s a)) (λ a. inr (core_is x.stage a)) (or_is (is_doubtful s) (is_core x.stage) h)
-  becomes_is g s (IsSetWith f) h = ⊎_elim (λ a. inl (set_with_is f s a)) (λ a. inr (⊎_elim
-      (λ b. inl (knows_is g f true (and_l (knows x g f true) _ b), set_so_is s (and_r (knows x g f true) _ b)))
-      (λ b. inr (knows_is g f false (and_l (knows x g f false) _ b), unset_is s (and_r (knows x g f false) _ b)))
-      (or_is (knows x g f true && is_set_so s) (knows x g f false && is_unset s) a)))
-      (or_is (is_set_with f s) (knows x g f true && is_set_so s || knows x g f false && is_unset s) h)
+  becomes_is g s IsEmpty h = empty_is s h
+  becomes_is g s (IsEmptyWithout l) h = ⊎_elim (λ a. inl (empty_without_is l s a)) (λ a. inr (⊎_elim
+      (λ b. inl (knows_is g l true (and_l (knows x g l true) _ b), set_so_is s (and_r (knows x g l true) _ b)))
+      (λ b. inr (knows_is g l false (and_l (knows x g l false) _ b), empty_is s (and_r (knows x g l false) _ b)))
+      (or_is (knows x g l true && is_set_so s) (knows x g l false && is_empty s) a)))
+      (or_is (is_empty_without l s) (knows x g l true && is_set_so s || knows x g l false && is_empty s) h)
+  becomes_is g s (IsSetWith f) h = ⊎_elim (λ a. inl (set_with_is f s a)) (λ a. let k = and_r (is_flag x f) _ a in
+      inr (
+        flag_is f (and_l (is_flag x f) _ a),
+        ⊎_elim
+            (λ b. inl (knows_is g f true (and_l (knows x g f true) _ b), set_so_is s (and_r (knows x g f true) _ b)))
+            (λ b. inr (knows_is g f false (and_l (knows x g f false) _ b), unset_is s (and_r (knows x g f false) _ b)))
+            (or_is (knows x g f true && is_set_so s) (knows x g f false && is_unset s) k),
+      ))
+      (or_is (is_set_with f s) (is_flag x f && (knows x g f true && is_set_so s || knows x g f false && is_unset s)) h)
 
   flows_is : (g d : FlowState) → Outside g → Outside d → flows_into x g d ≡ true → FlowsInto x g d
   flows_is g d og od h = record {
@@ -474,10 +503,10 @@ module _ (x : Context) where
   push_sound g o to [] e q = absurd (cc)
   push_sound g o to (array ∷ []) e q = absurd (cc)
   push_sound g o to (array ∷ (a ∷ from)) e q =
-      let r = cond_is (take_ok x g a && change_ok x (given x g a) array) (Some (goes_to (given x g a))) e q in
-      subst (BuiltSound g Push to (array ∷ (a ∷ from))) (some_is (goes_to (given x g a)) e r.1)
+      let r = cond_is (take_ok x g a && change_ok x (given x g a) array) (Some (goes_to (changed x (given x g a) array))) e q in
+      subst (BuiltSound g Push to (array ∷ (a ∷ from))) (some_is (goes_to (changed x (given x g a) array)) e r.1)
       (record {
-        outside = goes (given x g a) o;
+        outside = goes (changed x (given x g a) array) (stored_outside (given x g a) array o);
         built_is =
             λ d i. (take_is g a (and_l (take_ok x g a) _ r.0), change_is (given x g a) array (and_r (take_ok x g a) _ r.0), i);
       })
@@ -486,8 +515,8 @@ module _ (x : Context) where
       → BuiltSound g Pop to from e
   pop_sound g o to [] e q = absurd (cc)
   pop_sound g o to (array ∷ from) e q =
-      let r = cond_is (change_ok x g array) (stores x g to) e q in
-      let s = stores_sound g to e o r.1 in
+      let r = cond_is (change_ok x g array) (stores x (changed x g array) to) e q in
+      let s = stores_sound (changed x g array) to e (stored_outside g array o) r.1 in
       record { outside = s.outside; built_is = λ d i. (change_is g array r.0, s.stores_is d i) }
 
   swap_sound : (g : FlowState) → Outside g → (to : Option Place) (from : List Place) (e : Exits) → built_flow x Swap to from g ≡ Some e
@@ -496,11 +525,11 @@ module _ (x : Context) where
   swap_sound g o to (array ∷ []) e q = absurd (cc)
   swap_sound g o to (array ∷ (a ∷ [])) e q = absurd (cc)
   swap_sound g o to (array ∷ (a ∷ (b ∷ from))) e q =
-      let r = cond_is (read_ok x g a && (read_ok x g b && change_ok x g array)) (Some (goes_to g)) e q in
+      let r = cond_is (read_ok x g a && (read_ok x g b && change_ok x g array)) (Some (goes_to (changed x g array))) e q in
       let s = and_r (read_ok x g a) _ r.0 in
-      subst (BuiltSound g Swap to (array ∷ (a ∷ (b ∷ from)))) (some_is (goes_to g) e r.1)
+      subst (BuiltSound g Swap to (array ∷ (a ∷ (b ∷ from)))) (some_is (goes_to (changed x g array)) e r.1)
       (record {
-        outside = goes g o;
+        outside = goes (changed x g array) (stored_outside g array o);
         built_is =
             λ d i. (read_is g a (and_l (read_ok x g a) _ r.0), read_is g b (and_l (read_ok x g b) _ s), change_is g array (and_r (read_ok x g b) _ s), i);
       })
@@ -509,16 +538,120 @@ module _ (x : Context) where
   frees_is Deinitialises h = absurd (cc)
   frees_is GivesUp h = tt
 
+  -- a type that holds an array is found to hold one
+  nested_is : (e : TyId) (r : Path) → IsArrayAt x.core.types e r → has_array x e ≡ true
+  nested_is e r arr = by (each_array x.core.types e (λ q. false)) refl
+    where
+      by : (b : Bool) → each_array x.core.types e (λ q. false) ≡ b → not b ≡ true
+      by true q = absurd (let z : false ≡ true = array_sound x.core.types e (λ q. false) q r arr in cc)
+      by false q = refl
+
+  empty_place : (g : FlowState) (p : Place) → no_elements x g p ≡ true → HasNoElements x g p
+  empty_place g p h t e q (u, a, is, arr, inner) = empty_is (still_map x g p q) (⊎_elim
+      (λ z. absurd (let y : is_nested x (form x.core.types u) ≡ true = ap (is_nested x) arr ∙ nested_is a inner.0 inner.1 in
+      let w : is_nested x (form x.core.types u) ≡ false = not_is (is_nested x (form x.core.types u)) z in let v : false ≡ true = sym w ∙ y in cc)) (λ z. z)
+      (or_is (not (is_nested x (form x.core.types u))) (is_empty (still_map x g p q))
+      (leaf_form x.core.types (depth_of x.core.types) t (λ a q. not (is_nested x a) || is_empty (still_map x g p q))
+      (if_some_is (place_type x.core.types x.fun p) _ t h e) q u is (ap parts_of arr))))
+
+  -- where what is stored tells whether an array has an element
+  count_is : (g : FlowState) (to a : Place) → count_ok x g to a ≡ true → CountOk x g to a
+  count_is g to a h =
+      let b = and_r (read_ok x g a) _ h in
+      let c = and_r (is_exact a.steps) _ b in
+      let d = and_r (store_ok x g to) _ c in
+      let e = and_r (is_whole_local x to.steps) _ d in
+      let f = and_r (not (to.local == a.local)) _ e in
+      record {
+        read = read_is g a (and_l (read_ok x g a) _ h);
+        exact = and_l (is_exact a.steps) _ b;
+        store = store_is g to (and_l (store_ok x g to) _ c);
+        whole = and_l (is_whole_local x to.steps) _ d;
+        other = nat_not to.local a.local (not_is (to.local == a.local) (and_l (not (to.local == a.local)) _ e));
+        untied = untied_is g a.local (and_l (untied x g a.local) _ f);
+      }
+
+  compare_is : (g : FlowState) (to z n : Place) → compare_ok x g to z n ≡ true → CompareOk x g to z n
+  compare_is g to z n h =
+      let a = and_r (read_ok x g z) _ h in
+      let b = and_r (is_whole_local x z.steps) _ a in
+      let c = and_r (is_known false (g.init z.local [])) _ b in
+      let d = and_r (read_ok x g n) _ c in
+      let e = and_r (is_whole_local x n.steps) _ d in
+      let f = and_r (store_ok x g to) _ e in
+      let k = and_r (is_whole_local x to.steps) _ f in
+      record {
+        read_zero = read_is g z (and_l (read_ok x g z) _ h);
+        whole_zero = and_l (is_whole_local x z.steps) _ a;
+        known = known_is false (g.init z.local []) (and_l (is_known false (g.init z.local [])) _ b);
+        read = read_is g n (and_l (read_ok x g n) _ c);
+        whole_read = and_l (is_whole_local x n.steps) _ d;
+        store = store_is g to (and_l (store_ok x g to) _ e);
+        whole = and_l (is_whole_local x to.steps) _ f;
+        other = nat_not to.local n.local (not_is (to.local == n.local) (and_l (not (to.local == n.local)) _ k));
+        other_zero = nat_not to.local z.local (not_is (to.local == z.local) (and_r (not (to.local == n.local)) _ k));
+      }
+
+  cond_two : {A : Type 0} (b : Bool) (a c : Option A) (e : A) → cond b a c ≡ Some e → ((b ≡ true) × (a ≡ Some e)) ⊎ (c ≡ Some e)
+  cond_two true a c e q = inl (refl, q)
+  cond_two false a c e q = inr q
+
+  count_sound : (g : FlowState) → Outside g → (to : Option Place) (from : List Place) (e : Exits) → built_flow x Count to from g ≡ Some e
+      → BuiltSound g Count to from e
+  count_sound g o None from e q = plainly g o None from e Count q (λ d t. inl t)
+  count_sound g o (Some to) [] e q = plainly g o (Some to) [] e Count q (λ d t. inl t)
+  count_sound g o (Some to) (a ∷ from) e q = ⊎_elim
+      (λ r. subst (BuiltSound g Count (Some to) (a ∷ from)) (some_is (goes_to (counted x g to a)) e r.1) (record {
+        outside = goes (counted x g to a) o;
+        built_is = λ d i. inr (count_is g to a r.0, i);
+      }))
+      (λ q. plainly g o (Some to) (a ∷ from) e Count q (λ d t. inl t))
+      (cond_two (count_ok x g to a) (Some (goes_to (counted x g to a))) (computes x g (Some to) (a ∷ from)) e q)
+
+  less_sound : (g : FlowState) → Outside g → (to : Option Place) (from : List Place) (e : Exits) → built_flow x Lt to from g ≡ Some e
+      → BuiltSound g Lt to from e
+  less_sound g o None from e q = plainly g o None from e Lt q (λ d t. inl t)
+  less_sound g o (Some to) [] e q = plainly g o (Some to) [] e Lt q (λ d t. inl t)
+  less_sound g o (Some to) (a ∷ []) e q = plainly g o (Some to) (a ∷ []) e Lt q (λ d t. inl t)
+  less_sound g o (Some to) (a ∷ (b ∷ from)) e q = ⊎_elim
+      (λ r. subst (BuiltSound g Lt (Some to) (a ∷ (b ∷ from))) (some_is (goes_to (compared x g to b)) e r.1) (record {
+        outside = goes (compared x g to b) o;
+        built_is = λ d i. inr (compare_is g to a b r.0, i);
+      }))
+      (λ q. plainly g o (Some to) (a ∷ (b ∷ from)) e Lt q (λ d t. inl t))
+      (cond_two (compare_ok x g to a b) (Some (goes_to (compared x g to b))) (computes x g (Some to) (a ∷ (b ∷ from))) e q)
+
+  new_sound : (g : FlowState) → Outside g → (to : Option Place) (from : List Place) (e : Exits) → built_flow x NewArray to from g ≡ Some e
+      → BuiltSound g NewArray to from e
+  new_sound g o None from e q = absurd (cc)
+  new_sound g o (Some to) from e q =
+      let r = cond_is (store_ok x g to) (Some (goes_to (stored_as x (λ q. IsEmpty) g to (is_exact to.steps)))) e q in
+      subst (BuiltSound g NewArray (Some to) from) (some_is (goes_to (stored_as x (λ q. IsEmpty) g to (is_exact to.steps))) e r.1) (record {
+        outside = goes (stored_as x (λ q. IsEmpty) g to (is_exact to.steps)) (as_outside (is_exact to.steps));
+        built_is = λ d i. (store_is g to r.0, i);
+      })
+    where
+      as_outside : (b : Bool) → Outside (stored_as x (λ q. IsEmpty) g to b)
+      as_outside true = o
+      as_outside false = o
+
   free_sound : (g : FlowState) → Outside g → (to : Option Place) (from : List Place) (e : Exits) → built_flow x FreeArray to from g ≡ Some e
       → BuiltSound g FreeArray to from e
   free_sound g o to [] e q = absurd (cc)
   free_sound g o to (array ∷ from) e q =
-      let r = cond_is (frees x.stage && take_ok x g array) (Some (goes_to (given x g array))) e q in
+      let r = cond_is (frees x.stage && (take_ok x g array && no_elements x g array)) (Some (goes_to (given x g array))) e q in
       subst (BuiltSound g FreeArray to (array ∷ from)) (some_is (goes_to (given x g array)) e r.1)
       (record {
         outside = goes (given x g array) o;
         built_is =
-            λ d i. (frees_is x.stage (and_l (frees x.stage) _ r.0), (take_is g array (and_r (frees x.stage) _ r.0), i));
+            λ d i. (
+              frees_is x.stage (and_l (frees x.stage) _ r.0),
+              (
+                take_is g array (and_l (take_ok x g array) _ (and_r (frees x.stage) _ r.0)),
+                i,
+                empty_place g array (and_r (take_ok x g array) _ (and_r (frees x.stage) _ r.0)),
+              ),
+            );
       })
 
   built_sound : (operator : Operator) (g : FlowState) → Outside g → (to : Option Place) (from : List Place) (e : Exits)
@@ -535,11 +668,11 @@ module _ (x : Context) where
   built_sound Neg g o to from e q = plainly g o to from e Neg q (λ d t. t)
   built_sound (Convert u) g o to from e q = plainly g o to from e (Convert u) q (λ d t. t)
   built_sound Eq g o to from e q = plainly g o to from e Eq q (λ d t. t)
-  built_sound Lt g o to from e q = plainly g o to from e Lt q (λ d t. t)
+  built_sound Lt g o to from e q = less_sound g o to from e q
   built_sound Le g o to from e q = plainly g o to from e Le q (λ d t. t)
   built_sound Not g o to from e q = plainly g o to from e Not q (λ d t. t)
-  built_sound NewArray g o to from e q = plainly g o to from e NewArray q (λ d t. t)
-  built_sound Count g o to from e q = plainly g o to from e Count q (λ d t. t)
+  built_sound NewArray g o to from e q = new_sound g o to from e q
+  built_sound Count g o to from e q = count_sound g o to from e q
   built_sound Print g o to from e q = plainly g o to from e Print q (λ d t. t)
   built_sound Read g o to from e q = plainly g o to from e Read q (λ d t. t)
   built_sound Check g o to from e q = plainly g o to from e Check q (λ d t. t)
@@ -707,7 +840,7 @@ module _ (x : Context) where
 
   dropped_is : (s : Stage) (g : FlowState) (p : Place) → dropped x s g p ≡ true → IsDropped x s g p
   dropped_is Deinitialises g p h = tt
-  dropped_is GivesUp g p h = set_is g p h
+  dropped_is GivesUp g p h = (set_is g p (and_l (set_place x g p) _ h), empty_place g p (and_r (set_place x g p) _ h))
 
   copied_is : (s : Stage) (p : Place) → copied x s p ≡ true → IsCopied x s p
   copied_is Deinitialises p h = tt
@@ -780,25 +913,55 @@ module _ (x : Context) where
   abbrev SoundHere : Stmts → Type 0
   SoundHere ss = (g : FlowState) (e : Exits) → Outside g → flow_all x ss g ≡ Some e → SoundAll g ss e
 
-  then_sound : (s : Stmt) (ss : Stmts) (g : FlowState) (e : Exits) → Outside g → ((e : Exits) → flow_one x s g ≡ Some e → Sound g s e) → SoundHere ss
+  without_becomes : (g : FlowState) (s : InitState) → Becomes x g s (without_ties x s)
+  without_becomes g IsSet = tt
+  without_becomes g IsUnset = refl
+  without_becomes g (IsKnown b) = refl
+  without_becomes g IsEmpty = refl
+  without_becomes g (IsEmptyWithout l) = tt
+  without_becomes g IsDoubtful = inl refl
+  without_becomes g (IsSetWith f) = inl refl
+
+  -- a statement as it is, or where less is told
+  tried_sound : (s : Stmt) (g : FlowState) (e : Exits) → Outside g → ((g : FlowState) (e : Exits) → Outside g → flow_one x s g ≡ Some e → Sound g s e)
+      → tried x (flow_one x s g) g (flow_one x s) ≡ Some e → (k : FlowState) × FlowsInto x g k × Sound k s e
+  tried_sound s g e o one q = by (flow_one x s g) refl q
+    where
+      by : (r : Option Exits) → flow_one x s g ≡ r → tried x r g (flow_one x s) ≡ Some e → (k : FlowState) × FlowsInto x g k × Sound k s e
+      by (Some f) is q = (g, flows_self g, one g e o (is ∙ q))
+      by None is q = (
+        record g { init = λ l r. without_ties x (g.init l r) },
+        record { status = λ l. refl; init = λ l t r y leaf. without_becomes g (g.init l r); open_places = λ e a. a; yielded = refl },
+        one (record g { init = λ l r. without_ties x (g.init l r) }) e o q,
+      )
+
+  then_sound : (s : Stmt) (ss : Stmts) (g : FlowState) (e : Exits) → Outside g
+      → ((g : FlowState) (e : Exits) → Outside g → flow_one x s g ≡ Some e → Sound g s e) → SoundHere ss
       → flow_all x (Then s ss) g ≡ Some e → SoundAll g (Then s ss) e
   then_sound s ss g e o one rest q =
-      let r = and_then_is (flow_one x s g) (λ e. follows x e.next e ss (flow_all x ss)) e q in
-      by r.0 (one r.0 r.1) r.0.next refl r.2
+      let r = and_then_is (tried x (flow_one x s g) g (flow_one x s)) (λ e. follows x e.next e ss (flow_all x ss)) e q in
+      let t = tried_sound s g r.0 o one r.1 in
+      by r.0 t.0 t.1 t.2 r.0.next refl r.2
     where
-      by : (e1 : Exits) → Sound g s e1 → (n : Option FlowState) → e1.next ≡ n → follows x n e1 ss (flow_all x ss) ≡ Some e → SoundAll g (Then s ss) e
-      by e1 s1 None is q =
+      by : (e1 : Exits) (k : FlowState) → FlowsInto x g k → Sound k s e1 → (n : Option FlowState) → e1.next ≡ n
+          → follows x n e1 ss (flow_all x ss) ≡ Some e → SoundAll g (Then s ss) e
+      by e1 k flows s1 None is q =
           let r = ends_is ss e1 e q in
           subst (λ ss. SoundAll g (Then s ss) e) (sym r.0) (subst (λ e. SoundAll g (Then s Done) e) r.1
-          (record { outside = s1.outside; onward = λ a d i f. (d, s1.onward a d (subst (λ n. Into n d) (sym is) tt) f, flows_self d) }))
-      by e1 s1 (Some h) is q =
+          (record { outside = s1.outside; onward = λ a d i f. (k, d, flows, s1.onward a d (subst (λ n. Into n d) (sym is) tt) f, flows_self d) }))
+      by e1 k flows s1 (Some h) is q =
           let r = and_then_is (flow_all x ss h) (λ f. meet_exits x f.next e1 f) e q in
           let s2 = rest h r.0 (subst OutsideIn is s1.outside.next) r.1 in
           let m = meet_all r.0.next e1 r.0 e s1.outside s2.outside r.2 in
           record {
             outside = record { next = subst OutsideIn (sym m.next_is) s2.outside.next; breaks = m.breaks.outside; again = m.again.outside };
-            onward = λ a d i f. let b = fits_both a r.0.next e1 r.0 e m f in
-                (h, s1.onward a h (subst (λ n. Into n h) (sym is) (flows_self h)) b.0, s2.onward a d (subst (λ n. Into n d) m.next_is i) b.1);
+            onward = λ a d i f. let b = fits_both a r.0.next e1 r.0 e m f in (
+              k,
+              h,
+              flows,
+              s1.onward a h (subst (λ n. Into n h) (sym is) (flows_self h)) b.0,
+              s2.onward a d (subst (λ n. Into n d) m.next_is i) b.1,
+            );
           }
 
   if_sound : (on : ℕ) (u v : Stmts) (g : FlowState) (e : Exits) → Outside g → SoundHere u → SoundHere v → flow_one x (If on u v) g ≡ Some e
@@ -880,7 +1043,7 @@ module _ (x : Context) where
   mutual
     flow_sound : (ss : Stmts) (g : FlowState) (e : Exits) → Outside g → flow_all x ss g ≡ Some e → SoundAll g ss e
     flow_sound Done g e o q = subst (SoundAll g Done) (some_is (goes_to g) e q) (record { outside = goes g o; onward = λ a d i f. i })
-    flow_sound (Then s ss) g e o q = then_sound s ss g e o (λ e q. one_sound s g e o q) (λ g e o q. flow_sound ss g e o q) q
+    flow_sound (Then s ss) g e o q = then_sound s ss g e o (λ g e o q. one_sound s g e o q) (λ g e o q. flow_sound ss g e o q) q
 
     one_sound : (s : Stmt) (g : FlowState) (e : Exits) → Outside g → flow_one x s g ≡ Some e → Sound g s e
     one_sound (Built operator to from spans) g e o q = let r = built_sound operator g o to from e q in

@@ -8,11 +8,11 @@ use Rattle.hy_core.specs.Plain.{Way, Reads, Writes}
 use Rattle.hy_core.specs.Values.{Selector, PartAt, ElementAt, selector_eq, Path, Apart}
 use Rattle.hy_core.specs.Control.{Form, form, parts_of}
 use Rattle.hy_core.specs.Typing.{Among, all, type_at, IsLeaf, IsArrayAt}
-use Rattle.hy_core.specs.Flow.{InitState, IsSet, IsUnset, IsKnown, IsDoubtful, IsSetWith, IsSetSo, Counts, InitMap, Holder}
-use Rattle.hy_core.specs.Flow.{InLocal, InSubscript, OpenPlace, Loan, Status, Own, Param, Opened, Bound, IsOpen}
+use Rattle.hy_core.specs.Flow.{InitState, IsSet, IsUnset, IsKnown, IsEmpty, IsEmptyWithout, IsDoubtful, IsSetWith, IsSetSo, IsNotTied, Counts}
+use Rattle.hy_core.specs.Flow.{InitMap, Holder, InLocal, InSubscript, OpenPlace, Loan, Status, Own, Param, Opened, Bound, IsOpen}
 use Rattle.hy_core.specs.Flow.{IsInLocal, Each}
-use Rattle.hy_core.specs.FlowOf.{every, member, way_eq, bool_eq, path_eq, are_apart, is_set_so, is_unset, is_known, is_doubtful}
-use Rattle.hy_core.specs.FlowOf.{is_set_with, counts, holder_eq, open_place_eq, loan_eq, status_eq, is_open}
+use Rattle.hy_core.specs.FlowOf.{every, member, way_eq, bool_eq, path_eq, are_apart, is_set_so, is_unset, is_known, is_doubtful, is_set_with}
+use Rattle.hy_core.specs.FlowOf.{is_empty, is_empty_without, is_not_tied, counts, holder_eq, open_place_eq, loan_eq, status_eq, is_open}
 use Rattle.hy_core.specs.FlowOf.{in_local, if_some, every_part, own_or_parts, every_leaf, depth_of, each_is, is_array, each_array}
 use Rattle.hy_core.proofs.Values.{selector_tells}
 
@@ -69,6 +69,8 @@ pub set_so_is : (s : InitState) → is_set_so s ≡ true → IsSetSo s
 set_so_is IsSet e = tt
 set_so_is IsUnset e = absurd (cc)
 set_so_is (IsKnown b) e = tt
+set_so_is IsEmpty e = tt
+set_so_is (IsEmptyWithout l) e = tt
 set_so_is IsDoubtful e = absurd (cc)
 set_so_is (IsSetWith f) e = absurd (cc)
 
@@ -76,6 +78,8 @@ pub unset_is : (s : InitState) → is_unset s ≡ true → s ≡ IsUnset
 unset_is IsSet e = absurd (cc)
 unset_is IsUnset e = refl
 unset_is (IsKnown b) e = absurd (cc)
+unset_is IsEmpty e = absurd (cc)
+unset_is (IsEmptyWithout l) e = absurd (cc)
 unset_is IsDoubtful e = absurd (cc)
 unset_is (IsSetWith f) e = absurd (cc)
 
@@ -83,6 +87,8 @@ pub known_is : (b : Bool) (s : InitState) → is_known b s ≡ true → s ≡ Is
 known_is b IsSet e = absurd (cc)
 known_is b IsUnset e = absurd (cc)
 known_is b (IsKnown c) e = ap IsKnown (bool_is c b e)
+known_is b IsEmpty e = absurd (cc)
+known_is b (IsEmptyWithout l) e = absurd (cc)
 known_is b IsDoubtful e = absurd (cc)
 known_is b (IsSetWith f) e = absurd (cc)
 
@@ -90,6 +96,8 @@ pub doubtful_is : (s : InitState) → is_doubtful s ≡ true → s ≡ IsDoubtfu
 doubtful_is IsSet e = absurd (cc)
 doubtful_is IsUnset e = absurd (cc)
 doubtful_is (IsKnown b) e = absurd (cc)
+doubtful_is IsEmpty e = absurd (cc)
+doubtful_is (IsEmptyWithout l) e = absurd (cc)
 doubtful_is IsDoubtful e = refl
 doubtful_is (IsSetWith f) e = absurd (cc)
 
@@ -97,20 +105,44 @@ pub set_with_is : (f : ℕ) (s : InitState) → is_set_with f s ≡ true → s �
 set_with_is f IsSet e = absurd (cc)
 set_with_is f IsUnset e = absurd (cc)
 set_with_is f (IsKnown b) e = absurd (cc)
+set_with_is f IsEmpty e = absurd (cc)
+set_with_is f (IsEmptyWithout l) e = absurd (cc)
 set_with_is f IsDoubtful e = absurd (cc)
 set_with_is f (IsSetWith k) e = ap IsSetWith (nat_is k f e)
 
-pub set_with_not : (f : ℕ) (s : InitState) → is_set_with f s ≡ false → s ≢ IsSetWith f
-set_with_not f IsSet e q = absurd (cc)
-set_with_not f IsUnset e q = absurd (cc)
-set_with_not f (IsKnown b) e q = absurd (cc)
-set_with_not f IsDoubtful e q = absurd (cc)
-set_with_not f (IsSetWith k) e q = nat_not k f e (let z : k ≡ f = cc in z)
+pub empty_is : (s : InitState) → is_empty s ≡ true → s ≡ IsEmpty
+empty_is IsSet e = absurd (cc)
+empty_is IsUnset e = absurd (cc)
+empty_is (IsKnown b) e = absurd (cc)
+empty_is IsEmpty e = refl
+empty_is (IsEmptyWithout l) e = absurd (cc)
+empty_is IsDoubtful e = absurd (cc)
+empty_is (IsSetWith f) e = absurd (cc)
+
+pub empty_without_is : (l : ℕ) (s : InitState) → is_empty_without l s ≡ true → s ≡ IsEmptyWithout l
+empty_without_is l IsSet e = absurd (cc)
+empty_without_is l IsUnset e = absurd (cc)
+empty_without_is l (IsKnown b) e = absurd (cc)
+empty_without_is l IsEmpty e = absurd (cc)
+empty_without_is l (IsEmptyWithout k) e = ap IsEmptyWithout (nat_is k l e)
+empty_without_is l IsDoubtful e = absurd (cc)
+empty_without_is l (IsSetWith f) e = absurd (cc)
+
+pub not_tied_is : (l : ℕ) (s : InitState) → is_not_tied l s ≡ true → IsNotTied l s
+not_tied_is l IsSet e = tt
+not_tied_is l IsUnset e = tt
+not_tied_is l (IsKnown b) e = tt
+not_tied_is l IsEmpty e = tt
+not_tied_is l (IsEmptyWithout k) e = nat_not k l (not_is (k == l) (and_l (not (k == l)) true e))
+not_tied_is l IsDoubtful e = tt
+not_tied_is l (IsSetWith k) e = nat_not k l (not_is (k == l) e)
 
 pub counts_is : (w s : InitState) → counts w s ≡ true → Counts w s
 counts_is IsSet s e = set_so_is s e
 counts_is IsUnset s e = unset_is s e
 counts_is (IsKnown b) s e = known_is b s e
+counts_is IsEmpty s e = empty_is s e
+counts_is (IsEmptyWithout l) s e = absurd (cc)
 counts_is IsDoubtful s e = absurd (cc)
 counts_is (IsSetWith f) s e = absurd (cc)
 
@@ -253,6 +285,10 @@ module _ (types : Table) where
 
   pub each_sound : (t : TyId) (c : InitMap) (s : InitState) → each_is types t c s ≡ true → Each types t c s
   each_sound t c s e q l = counts_is s (c q) (leaf_is (depth_of types) t (λ q. counts s (c q)) e q l)
+
+  pub leaf_form : (n : ℕ) (t : TyId) (f : Form → Path → Bool) → every_leaf types n t f ≡ true → (q : Path) (u : TyId) → type_at types (Some t) q ≡ Some u
+      → parts_of (form types u) ≡ [] → f (form types u) q ≡ true
+  leaf_form n t f e q u is none = leaf_found n t f e q u is none
 
   pub array_sound : (t : TyId) (f : Path → Bool) → each_array types t f ≡ true → (q : Path) → IsArrayAt types t q → f q ≡ true
   array_sound t f e q (u, a, is, arr) =

@@ -18,7 +18,7 @@ use Rattle.hy_core.specs.Control.{stop, with_work, key, with_some, spot, read, t
 use Rattle.hy_core.specs.Statements.{close_all, back, yield_to, slide_of, does}
 use Rattle.hy_core.specs.Typing.{IsLeaf}
 use Rattle.hy_core.specs.Shaped.{IsOf, Leaves, Shaped}
-use Rattle.hy_core.specs.Flow.{Loan, Status, Own, Param, Opened, Bound, InitState, IsSet, IsUnset, IsSetWith}
+use Rattle.hy_core.specs.Flow.{Loan, Status, Own, Param, Opened, Bound, InitState, IsSet, IsUnset}
 use Rattle.hy_core.specs.Flow.{IsUntied, Counts, InitMap, all_set, none_set, map_at, with_map, FlowState}
 use Rattle.hy_core.specs.Flow.{Signature, Context, set_local, with_init, with_status, is_exact, IsEntered, IsSetAt, IsLocalSet, ReadOk, StoreOk, GiveOk}
 use Rattle.hy_core.specs.Flow.{TakeOk, given, stored, FlowsInto, IsOpen, IsLast, Slides}

@@ -20,10 +20,9 @@ use Rattle.hy_core.specs.Shaped.{IsOf, IsDeinit, Shaped}
 use Rattle.hy_core.specs.Flow.{InitState, IsSet, IsUnset, all_set, none_set, with_map, FlowState, Signature, signature_of, terms_at, Context, with_init}
 use Rattle.hy_core.specs.Flow.{is_exact, GiveOk, given, FlowsInto, BodyFlows, context_of}
 use Rattle.std.proofs.Common.{⊎_elim}
-use Rattle.hy_core.specs.Flow.{InitMap, IsKnown, IsDoubtful, IsSetWith, Becomes, set_local}
+use Rattle.hy_core.specs.Flow.{InitMap, IsKnown, IsEmpty, IsEmptyWithout, IsDoubtful, IsSetWith, Becomes, set_local}
 use Rattle.hy_core.proofs.FlowStates.{SignsSet, Tells, tells_same, tells_doubtful, becomes_self, becomes_on}
 use Rattle.hy_core.proofs.SetFrames.{SpotSet, SameInit}
-use Rattle.hy_core.proofs.SetWalks.{wholes, with_rel, tells_change, tells_set_local, plain_none}
 use Rattle.hy_core.proofs.Keys.{set_same, set_other}
 use Rattle.hy_core.proofs.Values.{get_get, get_unset}
 use Rattle.hy_core.proofs.OpenPlaces.{sound_apply}
@@ -33,10 +32,10 @@ use Rattle.hy_core.proofs.CalmFrames.{context, some_is, DeedOn}
 use Rattle.hy_core.proofs.CalmDrops.{deeds_on, part_deeds_on}
 use Rattle.hy_core.proofs.CalmSteps.{Like, like_self}
 use Rattle.hy_core.proofs.Stuck.{deinit_found}
-use Rattle.hy_core.proofs.SetValues.{Meets, split, with_map_below, with_map_apart, with_map_above, whole_unset, sets_none}
+use Rattle.hy_core.proofs.SetValues.{truth_of, Meets, meets_set, split, with_map_below, with_map_apart, with_map_above, whole_unset, sets_none}
 use Rattle.hy_core.proofs.SetMemories.{InitMaps, holds_lent, kept_here}
 use Rattle.hy_core.proofs.SetWalks.{Fine, over, stands, Sure, good_some, good_if, good_turn, still_exact, wholes}
-use Rattle.hy_core.proofs.SetWalks.{with_rel, tells_change, tells_set_local, plain_none, Tie, IsForeign, covered}
+use Rattle.hy_core.proofs.SetWalks.{with_rel, tells_change, tells_set_local, untied_with, none_tells, Tie, IsForeign, covered}
 use Rattle.hy_core.proofs.SetFrames.{flows_less, TasksSet, WorkSet, Stands}
 use Rattle.hy_core.proofs.SetSteps.{small_of, Here, here_work, here_less, here_stands, here_now, now_here, like_stands}
 use Rattle.hy_core.proofs.SetEntries.{Handing, begins, ty', maps₀, promised', holds₀, ty_new, maps_old, maps_new, at_new, at_old, not_started}
@@ -59,7 +58,9 @@ product_is d (Array vs) e = absurd (cc)
 unset_state : (s : InitState) (v : Val) → Meets s v → v ≡ Unset → s ≡ IsUnset
 unset_state IsSet v m e = absurd (whole_unset [] (ap is_whole (sym e) ∙ m))
 unset_state IsUnset v m e = refl
-unset_state (IsKnown b) v m e = absurd (let z : Truth b ≡ Unset = sym m ∙ e in cc)
+unset_state (IsKnown b) v m e = absurd (let z : None ≡ Some b = ap truth_of (sym e) ∙ m in cc)
+unset_state IsEmpty v m e = absurd (let z : Array No ≡ Unset = sym m ∙ e in cc)
+unset_state (IsEmptyWithout l) v m e = absurd m
 unset_state IsDoubtful v m e = absurd m
 unset_state (IsSetWith f) v m e = absurd m
 
@@ -108,7 +109,9 @@ mutual
 blank_state : (s : InitState) (v : Val) → Meets s v → is_blank v ≡ true → s ≡ IsUnset
 blank_state IsSet v m b = absurd (not_both v b m)
 blank_state IsUnset v m b = refl
-blank_state (IsKnown c) v m b = absurd (let z : false ≡ true = sym (ap is_blank m) ∙ b in cc)
+blank_state (IsKnown c) v m b = absurd (not_both v b (meets_set (IsKnown c) v tt m))
+blank_state IsEmpty v m b = absurd (let z : false ≡ true = sym (ap is_blank m) ∙ b in cc)
+blank_state (IsEmptyWithout l) v m b = absurd m
 blank_state IsDoubtful v m b = absurd m
 blank_state (IsSetWith f) v m b = absurd m
 
@@ -206,15 +209,8 @@ module _ (p : Setting) (signatures : ℕ → Signature) (sh : Shaped p.core) (c 
     spot_set : SpotSet (context p signatures number c.now.fun) c.now.id doubted (record { key = mine place.local; path = still place.steps })
     spot_set = record {
       own = refl;
-      untied = λ l t q y leaf. ⊎_elim
-          (λ a. subst (λ s. s ≢ IsSetWith place.local)
-          (sym (ap (λ b. cond b (with_map (still place.steps) (λ q. IsDoubtful) (g.init place.local)) (g.init l) q)
-          a.0)) (with_rel (λ s _. s ≢ IsSetWith place.local) (still place.steps) (λ q. IsDoubtful) (λ q.
-          IsDoubtful) (g.init place.local) (g.init place.local) q
-          (λ r is z. absurd (cc)) (ok.untied place.local t q (ap (local_type c.now.fun) (sym a.1) ∙ y) leaf)))
-          (λ a. subst (λ s. s ≢ IsSetWith place.local)
-          (sym (ap (λ b. cond b (with_map (still place.steps) (λ q. IsDoubtful) (g.init place.local)) (g.init l) q)
-          a.0)) (ok.untied l t q y leaf)) (eqb_tells l place.local);
+      untied = untied_with (context p signatures number c.now.fun) g place.local (still place.steps) (λ q. IsDoubtful) place.local
+          (λ t r e leaf. tt) ok.untied;
       doubtful = λ r. ⊎_elim
           (λ a. ap (λ b. cond b (with_map (still place.steps) (λ q. IsDoubtful) (g.init place.local)) (g.init place.local) (still place.steps ++ r)) a.0
           ∙ with_map_below (still place.steps) (λ q. IsDoubtful) (g.init place.local) r)
@@ -565,8 +561,8 @@ module _ (p : Setting) (signatures : ℕ → Signature) (signs : (n : ℕ) → s
           tt,
           next _ (here_now p signatures sh c m number g here (with_init g s.key.local s.path none_set) _
               (covered p TS signatures number here.ty c.started here.promised here.maps m.opened c here.locals here.below
-              (small_of p.core sh number c.now.fun here.found) g m (now_here p signatures sh c m number g here) s.key.local s.path u none_set Unset is quiet.0
-              tt (sets_none p.core.types u) plain_none spot.untied)) quiet.1,
+              (small_of p.core sh number c.now.fun here.found) g m (now_here p signatures sh c m number g here) s.key.local s.path u none_set none_set Unset is
+              quiet.0 tt (sets_none p.core.types u) none_tells spot.untied)) quiet.1,
         )
 
   pub tasks_set : (ts : List Task) (m : Copies) (g : FlowState) → Here p signatures c m number g → Tasks ts g → Sure p TS (does_tasks p c w ts) m

@@ -19,7 +19,7 @@ use Rattle.hy_core.specs.Control.{stop, with_work, key, with_some, turn, spot, r
 use Rattle.hy_core.specs.Statements.{begun, hand_all, move_all, enter}
 use Rattle.hy_core.specs.Typing.{Among, Distinct, IsLeaf}
 use Rattle.hy_core.specs.Shaped.{IsOf, AreOf, LocalsAre, Shaped}
-use Rattle.hy_core.specs.Flow.{InSubscript, Param, IsSetWith, IsUntied, Counts, InitMap, all_set, none_set}
+use Rattle.hy_core.specs.Flow.{InSubscript, Param, IsNotTied, IsUntied, Counts, InitMap, all_set, none_set}
 use Rattle.hy_core.specs.Flow.{with_map, FlowState, Signature, Context, set_local, with_init}
 use Rattle.hy_core.specs.Flow.{with_open_place, IsOpen, HandsOk, TakesOk, given, all_given, come_from, held_by, Stores, Calls, Projects, first_status}
 use Rattle.hy_core.specs.Flow.{first_map, first, BodyFlows, context_of, NoLoop, Bound}
@@ -33,7 +33,7 @@ use Rattle.hy_core.proofs.CalmSteps.{Like, like_self}
 use Rattle.hy_core.proofs.SetValues.{Sets, sets_whole, Meets, no_array, sets_counts}
 use Rattle.hy_core.proofs.FlowStates.{SignsSet, Tells, tells_counts, tells_same}
 use Rattle.hy_core.proofs.SetMemories.{InitMaps, side, at_two, Holds, holds_store, holds_hand, holds_new, kept_here}
-use Rattle.hy_core.proofs.SetWalks.{over, stands, Sure, good_if, good_turn, wholes, tells_set_local, IsForeign, Tie, Now, good_take, AllBound}
+use Rattle.hy_core.proofs.SetWalks.{over, stands, Sure, good_if, good_turn, wholes, tells_set_local, untied_with, IsForeign, Tie, Now, good_take, AllBound}
 use Rattle.hy_core.proofs.SetFrames.{WorkSet, WaitsFor, Runs_on, Stands, Changes, frame_keep, callers_keep}
 use Rattle.hy_core.proofs.SetSteps.{small_of, Here}
 use Rattle.hy_core.proofs.SetBodies.{slice_front, way_tied}
@@ -229,11 +229,8 @@ module _ (p : Setting) (signatures : ℕ → Signature) (sh : Shaped p.core) (re
   -- what was handed over is set
   handed_untied : (i l : ℕ) (d : FlowState) (k : ℕ) → IsUntied (context p signatures number c.now.fun) d k
       → IsUntied (context p signatures number c.now.fun) (with_init d l [] ((signatures n).lent i).after) k
-  handed_untied i l d k untied j y q e leaf = ⊎_elim
-      (λ a. subst (λ s. s ≢ IsSetWith k) (sym (ap (λ b. cond b (with_map [] ((signatures n).lent i).after (d.init l)) (d.init j) q) a.0 ∙ reads.set n i q))
-      (λ z. absurd (cc)))
-      (λ a. subst (λ s. s ≢ IsSetWith k) (sym (ap (λ b. cond b (with_map [] ((signatures n).lent i).after (d.init l)) (d.init j) q) a.0))
-      (untied j y q e leaf)) (eqb_tells j l)
+  handed_untied i l d k untied = untied_with (context p signatures number c.now.fun) d l [] ((signatures n).lent i).after k
+      (λ t r e leaf. subst (IsNotTied k) (sym (reads.set n i r)) tt) untied
 
   come_untied : (d : FlowState) (i : ℕ) (ls : List ℕ) (k : ℕ) → IsUntied (context p signatures number c.now.fun) d k
       → IsUntied (context p signatures number c.now.fun) (come_from (context p signatures number c.now.fun) d (signatures n) i ls) k
@@ -573,7 +570,7 @@ module _ (p : Setting) (signatures : ℕ → Signature) (sh : Shaped p.core) (re
       let back = come_from_back (context p signatures number c.now.fun) h (signatures n) 0 lent in
       let come : FlowState = come_from (context p signatures number c.now.fun) h (signatures n) 0 lent in
       let held_untied : IsUntied (context p signatures number c.now.fun) (held_by (context p signatures number c.now.fun) to come (signatures n) 0 lent) to =
-      λ l y q e leaf. subst (λ init. init l q ≢ IsSetWith to) (sym (held_init to come (signatures n) 0 lent))
+      λ l y q e leaf. subst (λ init. IsNotTied to (init l q)) (sym (held_init to come (signatures n) 0 lent))
       (come_untied h 0 lent to t.2.untied l y q e leaf) in
       let same : (l : ℕ)
       → (held_by (context p signatures number c.now.fun) to (come_from (context p signatures number c.now.fun) h (signatures n) 0 lent) (signatures n) 0

@@ -20,17 +20,17 @@ use Rattle.hy_core.specs.Flow.{Bound, HasFlow, signatures_of, signature_of, term
 use Rattle.hy_core.specs.Values.{shape, Path}
 use Rattle.hy_core.specs.Dropped.{KeepsAll, StaysDropped}
 use Rattle.hy_core.specs.Flow.{InitState, IsUnset, IsKnown, IsSetSo, resolved, where_is}
-use Rattle.hy_core.specs.Values.{Truth, get}
+use Rattle.hy_core.specs.Values.{Truth}
 use Rattle.hy_core.specs.Memory.{set_at}
 use Rattle.hy_core.specs.Control.{form}
 use Rattle.hy_core.specs.Typing.{IsLeaf}
 use Rattle.hy_core.specs.Calm.{IsKept}
 use Rattle.hy_core.proofs.Keys.{set_other}
 use Rattle.hy_core.proofs.FlowStates.{SignsSet, Tells, tells_resolved, resolved_untied}
-use Rattle.hy_core.proofs.SetValues.{Meets, Sets}
+use Rattle.hy_core.proofs.SetValues.{truth_of, Meets, Sets, sets_single}
 use Rattle.hy_core.proofs.SetMemories.{kept_here, holds_told}
 use Rattle.hy_core.proofs.SetWalks.{wholes, tells_set_local, good_truth}
-use Rattle.hy_core.proofs.SetSteps.{here_after, flag_leaf}
+use Rattle.hy_core.proofs.SetSteps.{here_after}
 use Rattle.hy_core.proofs.OpenPlaces.{Sound, nothing_open}
 use Rattle.hy_core.proofs.CalmWalks.{at, IsQuiet, good_quiet}
 use Rattle.hy_core.proofs.CalmWalks as calm
@@ -137,16 +137,16 @@ module _ (p : Setting) (signatures : ℕ → Signature) (signs : (n : ℕ) → s
 
         told : (t : TyId) → here.ty (at c.now.id on) ≡ Some t → Sets p.core.types t (here.maps (at c.now.id on)) (m.value (at c.now.id on))
             → Sets p.core.types t (λ q. IsKnown b) (m.value (at c.now.id on))
-        told t y sets q leaf = ap (λ q. get q (m.value (at c.now.id on))) (flag_leaf p.core.types t q
-            (ap (form p.core.types) (sym (same_type has.0 t (sym typed ∙ y))) ∙ has.2) leaf) ∙ is
+        told t y sets = sets_single p.core.types t (IsKnown b) (m.value (at c.now.id on))
+            (ap parts_of (ap (form p.core.types) (sym (same_type has.0 t (sym typed ∙ y))) ∙ has.2)) (ap truth_of is)
 
-        truth_is : (c b : Bool) → Truth c ≡ Truth b → c ≡ b
-        truth_is c b e = cc
+        truth_is : (k : Bool) → Some k ≡ Some b → k ≡ b
+        truth_is k e = cc
 
         -- what is known of it already
         known : (k : Bool) → here.maps (at c.now.id on) [] ≡ IsKnown k → k ≡ b
-        known k e = truth_is k b (sym (subst (λ s. Meets s (m.value (at c.now.id on))) e
-            (here.holds.set (at c.now.id on) (kept_here m (at c.now.id on) kept) has.0 typed [] (has.0, refl, ap parts_of has.2))) ∙ is)
+        known k e = truth_is k (sym (subst (λ s. Meets s (m.value (at c.now.id on))) e
+            (here.holds.set (at c.now.id on) (kept_here m (at c.now.id on) kept) has.0 typed [] (has.0, refl, ap parts_of has.2))) ∙ ap truth_of is)
 
         agrees : (l : ℕ) (t : TyId) (q : Path) → local_type c.now.fun l ≡ Some t → IsLeaf p.core.types t q
             → Tells (wholes (set_at here.maps (at c.now.id on) (λ q. IsKnown b)) c.now.id)
@@ -188,7 +188,7 @@ module _ (p : Setting) (signatures : ℕ → Signature) (signs : (n : ℕ) → s
         by_stage : (stage : Stage) → IsOf p.core c.now.fun is.0 place → IsDropped (context p signatures number c.now.fun) stage g place
             → Sure p S (drop p stage c place) m
         by_stage Deinitialises of set = drop_begins p signatures sh c m number g here place is.0 d of t.0 t.2 w
-        by_stage GivesUp of set = drop_set p signatures sh c m number g here place is.0 d of (record { give = t.0; set = set }) t.2 w
+        by_stage GivesUp of set = drop_set p signatures sh c m number g here place is.0 d of (record { give = t.0; set = set.0 }) t.2 w
     statement_set a (Call n lent owned to) d t is w out =
         call_set p signatures sh reads each c m number g here n is.0 is.1 lent owned to d is.2 is.3 is.4 is.5 is.7 t w
     statement_set a (Project n lent owned to) d t is w out =
@@ -240,8 +240,9 @@ module _ (p : Setting) (signatures : ℕ → Signature) (signs : (n : ℕ) → s
   goes_set c m number g here (Rest Done w) t =
       λ calm. works c m number g here t.last w c.turns (flows_less (context p signatures number c.now.fun) g t.last t.transfers) t.next
   goes_set c m number g here (Rest (Then s ss) w) t = let h = t.transfers in let is : IsShaped p.core c.now.fun s × ShapedAll p.core c.now.fun ss = t.shaped in
-      statement_set (with_work c (Rest ss w)) m number g (here_work p signatures c m number g (Rest ss w) c.turns here) t.around s h.0 h.1 is.0
-      (record { around = t.around; last = t.last; transfers = h.2; shaped = is.1; outer = t.outer; next = t.next }) t.outer
+      statement_set (with_work c (Rest ss w)) m number h.0 (here_work p signatures c m number h.0 (Rest ss w) c.turns
+      (here_less p signatures c m number g h.0 (flows_less (context p signatures number c.now.fun) g h.0 h.2) here)) t.around s h.1 h.3 is.0
+      (record { around = t.around; last = t.last; transfers = h.4; shaped = is.1; outer = t.outer; next = t.next }) t.outer
   goes_set c m number g here (Loop head on body w) t = λ calm. works c m number g here t.first (Rest head (Test head on body w)) c.turns t.flows
       (record {
         around = NoLoop;

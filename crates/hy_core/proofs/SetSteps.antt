@@ -17,7 +17,7 @@ use Rattle.hy_core.specs.Control.{Control, GivesUp, Setting, stop, with_work, ke
 use Rattle.hy_core.specs.Statements.{built, constant, Charge, Paid, Unpaid, charge, charged, close_of, is_counted, count_if, way, drop, does}
 use Rattle.hy_core.specs.Typing.{all, place_type, type_at, still, IsLeaf, IsSmall}
 use Rattle.hy_core.specs.Shaped.{IsOf, IsConstant, IsBuilt, Shaped}
-use Rattle.hy_core.specs.Flow.{Loan, Status, Own, Param, Opened, Bound, InitState, IsSet, IsUnset, IsKnown, IsSetWith}
+use Rattle.hy_core.specs.Flow.{Loan, Status, Own, Param, Opened, Bound, InitState, IsSet, IsUnset, IsKnown, IsNotTied}
 use Rattle.hy_core.specs.Flow.{IsUntied, InitMap, all_set, none_set, map_at, with_map, FlowState}
 use Rattle.hy_core.specs.Flow.{Signature, Context, set_local, with_init, with_status, is_exact, IsEntered, IsSetAt, IsLocalSet, ReadOk, StoreOk, GiveOk}
 use Rattle.hy_core.specs.Flow.{TakeOk, given, stored, FlowsInto, IsLendable, opened_map, opened, LendOk, come_back, ComesBack, Without, Closes}
@@ -32,11 +32,11 @@ use Rattle.hy_core.proofs.CalmWalks.{at}
 use Rattle.hy_core.proofs.CalmFrames.{Sleeping, NotIn, Distinct_ids, context}
 use Rattle.hy_core.proofs.CalmStatements.{Ended, closes_end}
 use Rattle.hy_core.proofs.CalmSteps.{Like, like_self, like_with, like_count, like_id}
-use Rattle.hy_core.proofs.SetValues.{with_map_apart, map_below, leaf_above, leaf_below, leaf_back, Sets}
-use Rattle.hy_core.proofs.SetValues.{sets_exact, sets_inner, sets_part, sets_whole, all_sets}
+use Rattle.hy_core.proofs.SetValues.{truth_of, with_map_apart, map_below, leaf_below, leaf_back, Sets}
+use Rattle.hy_core.proofs.SetValues.{sets_exact, sets_inner, sets_part, sets_single, sets_whole, all_sets}
 use Rattle.hy_core.proofs.FlowStates.{Tells, tells_set, tells_same, tells_less}
 use Rattle.hy_core.proofs.SetMemories.{InitMaps, NotAway, Holds, holds_lend, holds_closed, BackOk}
-use Rattle.hy_core.proofs.SetWalks.{Fine, over, stands, Sure, good_some, with_rel, wholes, tells_change, tells_set_local}
+use Rattle.hy_core.proofs.SetWalks.{Fine, over, stands, Sure, good_some, with_rel, wholes, tells_change, tells_set_local, untied_with}
 use Rattle.hy_core.proofs.SetWalks.{EndsAt, still_exact, still_array, LoanTie, LoanType, Tie, Now, typed_at}
 use Rattle.hy_core.proofs.SetWalks.{local_sets, fits_there, spot_set, spot_blank, spot_store, good_read, good_take, good_write, built_good, AllBound}
 use Rattle.hy_core.proofs.SetFrames.{SameInit, flows_less, WorkSet, Runs_on, CallersSet, AsleepSet, Stands, Changes, frame_keep, callers_keep}
@@ -73,7 +73,9 @@ whole_constant Unknown n v e = absurd (cc)
 
 -- and its state is so
 plain_constant : (F : ℕ → InitState) (f : Form) (n : ℤ) → Tells F (constant_state f n) (constant_state f n)
-plain_constant F (Numbers t) n = tt
+plain_constant F (Numbers t) (pos zero) = refl
+plain_constant F (Numbers t) (pos (suc n)) = refl
+plain_constant F (Numbers t) (negsuc n) = tt
 plain_constant F Flags (pos zero) = refl
 plain_constant F Flags (pos (suc n)) = refl
 plain_constant F Flags (negsuc n) = tt
@@ -82,15 +84,17 @@ plain_constant F (Products d ts) n = tt
 plain_constant F (Arrays t) n = tt
 plain_constant F Unknown n = tt
 
-pub flag_leaf : (types : Table) (u : TyId) (q : Path) → form types u ≡ Flags → IsLeaf types u q → q ≡ []
-flag_leaf types u [] f leaf = refl
-flag_leaf types u (i ∷ q) f leaf = absurd (leaf_above types u leaf.0 [] i q (u, refl, ap parts_of f) leaf.1)
-
 constant_sets : (types : Table) (u : TyId) (f : Form) (n : ℤ) (v : Val) → form types u ≡ f → constant f n ≡ Some v → Fits types (form types u) v
     → is_whole v ≡ true → Sets types u (λ q. constant_state f n) v
-constant_sets types u (Numbers t) n v f e fits whole = sets_whole types u v fits whole
-constant_sets types u Flags (pos zero) v f e fits whole = λ q leaf. ap (λ q. get q v) (flag_leaf types u q f leaf) ∙ (let z : v ≡ Truth false = cc in z)
-constant_sets types u Flags (pos (suc n)) v f e fits whole = λ q leaf. ap (λ q. get q v) (flag_leaf types u q f leaf) ∙ (let z : v ≡ Truth true = cc in z)
+constant_sets types u (Numbers t) (pos zero) v f e fits whole =
+    sets_single types u (IsKnown false) v (ap parts_of f) (let z : Number t (pos zero) ≡ v = cc in ap truth_of (sym z))
+constant_sets types u (Numbers t) (pos (suc n)) v f e fits whole =
+    sets_single types u (IsKnown true) v (ap parts_of f) (let z : Number t (pos (suc n)) ≡ v = cc in ap truth_of (sym z))
+constant_sets types u (Numbers t) (negsuc n) v f e fits whole = sets_whole types u v fits whole
+constant_sets types u Flags (pos zero) v f e fits whole =
+    sets_single types u (IsKnown false) v (ap parts_of f) (let z : Truth false ≡ v = cc in ap truth_of (sym z))
+constant_sets types u Flags (pos (suc n)) v f e fits whole =
+    sets_single types u (IsKnown true) v (ap parts_of f) (let z : Truth true ≡ v = cc in ap truth_of (sym z))
 constant_sets types u Flags (negsuc n) v f e fits whole = absurd (cc)
 constant_sets types u (Tuples ts) n v f e fits whole = sets_whole types u v fits whole
 constant_sets types u (Products d ts) n v f e fits whole = sets_whole types u v fits whole
@@ -607,7 +611,7 @@ module _ (p : Setting) (signatures : ℕ → Signature) where
           (sym (ap (λ b. cond b none_set ((come_back x g l o o.way o.exact).init j) q) a.0)) (agree j y q e leaf a.1)) (eqb_tells j l))) t.2.2.init
 
       -- of a local that nothing came back from
-      off : (B : InitMap) (j : ℕ) (q : Path) (s : InitState) → j ≢ l → s ≢ IsSetWith l
+      off : (B : InitMap) (j : ℕ) (q : Path) (s : InitState) → j ≢ l → IsNotTied l s
           → Tells (wholes (set_at here.maps (mine o.base) B) c.now.id) s (set_at here.maps (mine o.base) B (mine j) q)
           → Tells (wholes (maps_with B) c.now.id) s (maps_with B (mine j) q)
       off B j q s n free told = subst (Tells (wholes (maps_with B) c.now.id) s)
@@ -696,13 +700,9 @@ module _ (p : Setting) (signatures : ℕ → Signature) where
               inside z r is = leaf_back p.core.types y u o.path r (ap (λ z. type_at p.core.types z o.path) (sym (based z)) ∙ type)
                   (subst (IsLeaf p.core.types y) is leaf)
 
-              untied_back : set_local g.init o.base (with_map o.path (g.init l) (g.init o.base)) j q ≢ IsSetWith l
-              untied_back = ⊎_elim
-                  (λ a. subst (λ s. s ≢ IsSetWith l) (sym (ap (λ b. cond b (with_map o.path (g.init l) (g.init o.base)) (g.init j) q) a.0))
-                  (with_rel (λ s _. s ≢ IsSetWith l) o.path (g.init l) (g.init l) (g.init o.base) (g.init o.base) q
-                  (λ r is. t.3 l u r local (inside a.1 r is)) (t.3 o.base y q (based a.1) leaf)))
-                  (λ a. subst (λ s. s ≢ IsSetWith l) (sym (ap (λ b. cond b (with_map o.path (g.init l) (g.init o.base)) (g.init j) q) a.0)) (t.3 j y q e leaf))
-                  (eqb_tells j o.base)
+              untied_back : IsNotTied l (set_local g.init o.base (with_map o.path (g.init l) (g.init o.base)) j q)
+              untied_back = untied_with x g o.base o.path (g.init l) l (λ y r e leaf. t.3 l u r local (leaf_back p.core.types y u o.path r
+                  (ap (λ z. type_at p.core.types z o.path) (sym e) ∙ type) leaf)) t.3 j y q e leaf
       close_by Writes false ew eb =
           let type : (a e : TyId) × (type_at p.core.types (local_type c.now.fun o.base) o.path ≡ Some a) × (form p.core.types a ≡ Arrays e) = let f =
           tie.type in subst (LoanType p.core.types c.now.fun l o) eb f in

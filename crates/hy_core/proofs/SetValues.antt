@@ -1,7 +1,9 @@
 -- What is set in the values of a type: which of the parts that have no parts of their own are whole, and which are unset.
 use Rattle.std.proofs.Common.{◌≡◌, ◌≢◌, ◌⊎◌, inl, inr, ⊎_elim, ℕ, zero, suc, ◌<◌, Bool, true, false, cond, ◌&&◌, ◌||◌, List, [], ◌∷◌, ◌++◌, length, Option}
-use Rattle.std.proofs.Common.{Some, None, slice_get, refl, sym, ap, ◌∙◌, subst, append_assoc, append-nil, arith}
+use Rattle.std.proofs.Common.{Some, None, slice_get, refl, sym, ap, ◌∙◌, subst, append_assoc, arith}
+use Rattle.std.specs.Prelude.{pos, negsuc, int_lt, nat_lt, if◌then◌else◌}
 use Rattle.std.specs.Option.{option_map}
+use Rattle.std.proofs.lemmas.Bool.{lt-ltb}
 use Rattle.std.proofs.lemmas.Option.{slice_get_within}
 use Rattle.hy_types.specs.declared.kinds.TyId.{TyId}
 use Rattle.hy_types.specs.declared.kinds.Ty.{Ty}
@@ -11,11 +13,13 @@ use Rattle.hy_types.specs.Words.{HasShape, Takes, of, TakeTogether, none, more}
 use Rattle.hy_types.specs.Words as sizes
 use Rattle.hy_core.specs.Values.{Val, Unset, Number, Truth, Tuple, Product, Array, Vals, No, And, Selector, PartAt, ElementAt, Path, many, nth, with_nth}
 use Rattle.hy_core.specs.Values.{part, with_part, get, put, shape, Has, IsThere, is_whole, all_whole, is_blank, all_blank, holds_array, any_array, Diverge}
-use Rattle.hy_core.specs.Operators.{at_end, popped, blanks}
+use Rattle.hy_core.specs.Operators.{at_end, popped, blanks, ordered, same_type}
+use Rattle.hy_base.specs.declared.numbers.IntegerType.TheVariants.{Int}
 use Rattle.hy_core.specs.Statements.{swapped}
 use Rattle.hy_core.specs.Control.{Form, Numbers, Flags, Arrays, product_form, form_of, form, parts_of, part_type}
 use Rattle.hy_core.specs.Typing.{Among, selected_type, type_at, IsLeaf, IsArrayAt, IsIn, IsSmall}
-use Rattle.hy_core.specs.Flow.{InitState, IsUnset, IsSet, IsKnown, IsDoubtful, IsSetWith, IsSetSo, Counts, InitMap, map_at, with_map, all_set, none_set}
+use Rattle.hy_core.specs.Flow.{InitState, IsUnset, IsSet, IsKnown, IsEmpty, IsEmptyWithout, IsDoubtful, IsSetWith, IsSetSo, Counts}
+use Rattle.hy_core.specs.Flow.{InitMap, map_at, with_map, all_set, none_set}
 use Rattle.hy_core.proofs.Values.{selector_tells, selector_dec, get_get, get_put_below, get_put_apart, there_back}
 use Rattle.hy_core.proofs.OpenPlaces.{get_put}
 use Rattle.hy_core.proofs.Values.{get_unset}
@@ -147,19 +151,98 @@ with_map_above (j ∷ q) i r d c = ⊎_elim
     (λ e. ap (λ b. cond b (with_map (q ++ i ∷ r) d (λ r. c (j ∷ r)) q) (c (j ∷ q))) e.0 ∙ with_map_above q i r d (λ r. c (j ∷ r)))
     (λ n. absurd (n.1 refl)) (selector_tells j j)
 
--- WHAT A STANDING CALLS A VALUE
+-- WHAT A STATE SAYS OF A VALUE
+
+-- of a truth value itself; of a number whether it is above 0, where it is not below
+abbrev pub truth_of : Val → Option Bool
+truth_of Unset = None
+truth_of (Number t (pos zero)) = Some false
+truth_of (Number t (pos (suc n))) = Some true
+truth_of (Number t (negsuc n)) = None
+truth_of (Truth b) = Some b
+truth_of (Tuple vs) = None
+truth_of (Product d vs) = None
+truth_of (Array vs) = None
 
 abbrev pub Meets : InitState → Val → Type 0
 Meets IsSet v = is_whole v ≡ true
 Meets IsUnset v = v ≡ Unset
-Meets (IsKnown b) v = v ≡ Truth b
+Meets (IsKnown b) v = truth_of v ≡ Some b
+Meets IsEmpty v = v ≡ Array No
+Meets (IsEmptyWithout l) v = ⊥
 Meets IsDoubtful v = ⊥
 Meets (IsSetWith f) v = ⊥
+
+-- what is known of a truth value or number is known of no other value
+known_whole : (v : Val) (b : Bool) → truth_of v ≡ Some b → is_whole v ≡ true
+known_whole Unset b e = absurd (cc)
+known_whole (Number t n) b e = refl
+known_whole (Truth c) b e = refl
+known_whole (Tuple vs) b e = absurd (cc)
+known_whole (Product d vs) b e = absurd (cc)
+known_whole (Array vs) b e = absurd (cc)
+
+known_single : (i : Selector) (v : Val) (b : Bool) → truth_of v ≡ Some b → Has i (shape v) → ⊥
+known_single i Unset b e h = absurd (cc)
+known_single i (Number t n) b e h = h
+known_single i (Truth c) b e h = h
+known_single i (Tuple vs) b e h = absurd (cc)
+known_single i (Product d vs) b e h = absurd (cc)
+known_single i (Array vs) b e h = absurd (cc)
+
+-- an array without elements has no part
+empty_single : (i : Selector) (v : Val) → v ≡ Array No → Has i (shape v) → ⊥
+empty_single (PartAt k) v e h = let z : Has (PartAt k) (shape (Array No)) = subst (λ v. Has (PartAt k) (shape v)) e h in z
+empty_single (ElementAt k) v e h = let z : Has (ElementAt k) (shape (Array No)) = subst (λ v. Has (ElementAt k) (shape v)) e h in absurd (omega (arith, z))
+
+-- of an array that is counted, and of the count
+abbrev pub array_state : Vals → InitState
+array_state No = IsEmpty
+array_state (And v vs) = IsSet
+
+abbrev pub is_filled : Vals → Bool
+is_filled No = false
+is_filled (And v vs) = true
+
+pub array_meets : (vs : Vals) → all_whole vs ≡ true → Meets (array_state vs) (Array vs)
+array_meets No whole = refl
+array_meets (And v vs) whole = whole
+
+pub count_meets : (vs : Vals) → Meets (IsKnown (is_filled vs)) (Number Int (pos (many vs)))
+count_meets No = refl
+count_meets (And v vs) = refl
+
+-- Whether 0 is below a number is whether that is above 0.
+pub zero_below : (v w : Val) (b e : Bool) → Meets (IsKnown false) v → Meets (IsKnown b) w → ordered int_lt v w ≡ Some e → e ≡ b
+zero_below Unset w b e hv hw is = absurd (cc)
+zero_below (Truth c) w b e hv hw is = absurd (cc)
+zero_below (Tuple vs) w b e hv hw is = absurd (cc)
+zero_below (Product d vs) w b e hv hw is = absurd (cc)
+zero_below (Array vs) w b e hv hw is = absurd (cc)
+zero_below (Number t (pos (suc k))) w b e hv hw is = absurd (cc)
+zero_below (Number t (negsuc k)) w b e hv hw is = absurd (cc)
+zero_below (Number t (pos zero)) w b e hv hw is = by w hw is
+  where
+    chosen : (c a : Bool) → (if c then Some a else None) ≡ Some e → Some a ≡ Some b → e ≡ b
+    chosen true a q r = cc
+    chosen false a q r = absurd (cc)
+
+    by : (w : Val) → truth_of w ≡ Some b → ordered int_lt (Number t (pos zero)) w ≡ Some e → e ≡ b
+    by Unset hw is = absurd (cc)
+    by (Number u (pos zero)) hw is = chosen (same_type t u) false is hw
+    by (Number u (pos (suc n))) hw is = chosen (same_type t u) (nat_lt 0 (suc n)) is (ap Some (lt-ltb 0 (suc n) (omega arith)) ∙ hw)
+    by (Number u (negsuc n)) hw is = absurd (cc)
+    by (Truth c) hw is = absurd (cc)
+    by (Tuple vs) hw is = absurd (cc)
+    by (Product d vs) hw is = absurd (cc)
+    by (Array vs) hw is = absurd (cc)
 
 pub meets_set : (s : InitState) (v : Val) → IsSetSo s → Meets s v → is_whole v ≡ true
 meets_set IsSet v h m = m
 meets_set IsUnset v h m = absurd h
-meets_set (IsKnown b) v h m = ap is_whole m
+meets_set (IsKnown b) v h m = known_whole v b m
+meets_set IsEmpty v h m = ap is_whole m
+meets_set (IsEmptyWithout l) v h m = absurd m
 meets_set IsDoubtful v h m = absurd h
 meets_set (IsSetWith f) v h m = absurd h
 
@@ -167,34 +250,35 @@ pub meets_counts : (w s : InitState) (v : Val) → Counts w s → Meets s v → 
 meets_counts IsSet s v h m = meets_set s v h m
 meets_counts IsUnset s v h m = subst (λ s. Meets s v) h m
 meets_counts (IsKnown b) s v h m = subst (λ s. Meets s v) h m
+meets_counts IsEmpty s v h m = subst (λ s. Meets s v) h m
+meets_counts (IsEmptyWithout l) s v h m = absurd h
 meets_counts IsDoubtful s v h m = absurd h
 meets_counts (IsSetWith f) s v h m = absurd h
 
 meets_put : (s : InitState) (i : Selector) (p : Path) (w v : Val) → IsThere (i ∷ p) v → is_whole w ≡ true → Meets s v → Meets s (put (i ∷ p) w v)
 meets_put IsSet i p w v there whole h = whole_put (i ∷ p) w v there h whole
 meets_put IsUnset i p w v there whole h = absurd (let z : Has i (shape Unset) = subst (λ v. Has i (shape v)) h there.0 in z)
-meets_put (IsKnown b) i p w v there whole h = absurd (let z : Has i (shape (Truth b)) = subst (λ v. Has i (shape v)) h there.0 in z)
+meets_put (IsKnown b) i p w v there whole h = absurd (known_single i v b h there.0)
+meets_put IsEmpty i p w v there whole h = absurd (empty_single i v h there.0)
+meets_put (IsEmptyWithout l) i p w v there whole h = absurd h
 meets_put IsDoubtful i p w v there whole h = absurd h
 meets_put (IsSetWith f) i p w v there whole h = absurd h
-
-meets_over : (s : InitState) (v w : Val) → is_whole v ≡ true → is_whole w ≡ true → ((b : Bool) → v ≢ Truth b) → Meets s v → Meets s w
-meets_over IsSet v w was whole other h = whole
-meets_over IsUnset v w was whole other h = absurd (whole_unset [] (ap is_whole (sym h) ∙ was))
-meets_over (IsKnown b) v w was whole other h = absurd (other b h)
-meets_over IsDoubtful v w was whole other h = absurd h
-meets_over (IsSetWith f) v w was whole other h = absurd h
 
 meets_unset : (s : InitState) (v w : Val) → v ≡ Unset → w ≡ Unset → Meets s v → Meets s w
 meets_unset IsSet v w e f h = absurd (whole_unset [] (ap is_whole (sym e) ∙ h))
 meets_unset IsUnset v w e f h = f
-meets_unset (IsKnown b) v w e f h = absurd (let z : Unset ≡ Truth b = sym e ∙ h in cc)
+meets_unset (IsKnown b) v w e f h = absurd (let z : None ≡ Some b = ap truth_of (sym e) ∙ h in cc)
+meets_unset IsEmpty v w e f h = absurd (let z : Unset ≡ Array No = sym e ∙ h in cc)
+meets_unset (IsEmptyWithout l) v w e f h = absurd h
 meets_unset IsDoubtful v w e f h = absurd h
 meets_unset (IsSetWith k) v w e f h = absurd h
 
 meets_there : (s : InitState) (i : Selector) (p : Path) (v : Val) → IsThere (i ∷ p) v → get (i ∷ p) v ≡ Unset → Meets s v → ⊥
 meets_there IsSet i p v there e h = whole_unset [] (ap is_whole (sym e) ∙ whole_get (i ∷ p) v there h)
 meets_there IsUnset i p v there e h = let z : Has i (shape Unset) = subst (λ v. Has i (shape v)) h there.0 in z
-meets_there (IsKnown b) i p v there e h = let z : Has i (shape (Truth b)) = subst (λ v. Has i (shape v)) h there.0 in z
+meets_there (IsKnown b) i p v there e h = known_single i v b h there.0
+meets_there IsEmpty i p v there e h = empty_single i v h there.0
+meets_there (IsEmptyWithout l) i p v there e h = h
 meets_there IsDoubtful i p v there e h = h
 meets_there (IsSetWith f) i p v there e h = h
 
@@ -218,7 +302,6 @@ module _ (types : Table) where
       go None q e on = absurd (cc)
       go (Some w) q e on = ap (λ f. form_on types f p) (sub_selected types (form types t) i w q) ∙ on (Some w) e
 
-  -- a part without parts has none below it
   -- where a type has no parts, no selector has a type
   no_selected : (f : Form) (i : Selector) → parts_of f ≡ [] → selected_type f i ≡ None
   no_selected f (PartAt i) e = ap (λ us. slice_get us i) e
@@ -229,6 +312,15 @@ module _ (types : Table) where
       let z : type_at types (Some l.0) (i ∷ r) ≡ Some u = ap (λ o. type_at types o (i ∷ r)) (sym l.1) ∙ sym (type_append (Some t) q (i ∷ r)) ∙ e in
       let x : type_at types None r ≡ Some u = ap (λ o. type_at types o r) (sym (no_selected (form types l.0) i l.2)) ∙ z in
       absurd (cc)
+
+  -- what has no parts has no other path
+  pub single_leaf : (u : TyId) (q : Path) → parts_of (form types u) ≡ [] → IsLeaf types u q → q ≡ []
+  single_leaf u [] f leaf = refl
+  single_leaf u (i ∷ q) f leaf = absurd (leaf_above u leaf.0 [] i q (u, refl, f) leaf.1)
+
+  -- one state of it
+  pub sets_single : (u : TyId) (s : InitState) (v : Val) → parts_of (form types u) ≡ [] → Meets s v → (q : Path) → IsLeaf types u q → Meets s (get q v)
+  sets_single u s v f m q leaf = subst (λ q. Meets s (get q v)) (sym (single_leaf u q f leaf)) m
 
   pub leaf_below : (t u : TyId) (p r : Path) → type_at types (Some t) p ≡ Some u → IsLeaf types u r → IsLeaf types t (p ++ r)
   leaf_below t u p r e l = (l.0, type_append (Some t) p r ∙ ap (λ o. type_at types o r) e ∙ l.1, l.2)
@@ -390,17 +482,15 @@ module _ (types : Table) where
       (λ x l. absurd (no_leaf t a e p j (r ++ x) is f (subst (IsLeaf types t) (append_assoc p (j ∷ r) x) l)))
       (λ q i x z l. meets_put (c q) i x w (get q v) (there_back q (i ∷ x) v (subst (λ p. IsThere p v) z there)) whole (s q l))
 
-  -- by a whole array where a whole one was
-  pub sets_over : (t u e : TyId) (c : InitMap) (v : Val) (p : Path) (w : Val) → Sets t c v → IsThere p v → type_at types (Some t) p ≡ Some u
-      → form types u ≡ Arrays e → is_whole (get p v) ≡ true → is_whole w ≡ true
-      → ((b : Bool) → get p v ≢ Truth b) → Sets t c (put p w v)
-  sets_over t u e c v p w s there is f was whole other =
-      sets_put t c c v p w s there (λ q a. refl) below (λ q i r z l. absurd (leaf_above t u q i r l (ap (type_at types (Some t)) (sym z) ∙ is)))
-    where
-      below : (r : Path) → IsLeaf types t (p ++ r) → Meets (c (p ++ r)) (get r w)
-      below [] l = meets_over (c (p ++ [])) (get (p ++ []) v) w (ap (λ p. is_whole (get p v)) (append-nil p) ∙ was) whole
-          (λ b z. other b (ap (λ p. get p v) (sym (append-nil p)) ∙ z)) (s (p ++ []) l)
-      below (j ∷ r) l = absurd (no_leaf t u e p j r is f l)
+  -- where more is known of what stands at a path of the type
+  pub sets_told : (t u : TyId) (c d : InitMap) (v : Val) (p : Path) → Sets t c v → type_at types (Some t) p ≡ Some u → Sets u d (get p v)
+      → Sets t (with_map p d c) v
+  sets_told t u c d v p s is new q l = ⊎_elim
+      (λ a. subst (λ z. Meets z (get q v)) (sym (with_map_apart p d c q a)) (s q l))
+      (λ b. ⊎_elim
+      (λ x. subst (λ q. Meets (with_map p d c q) (get q v)) (sym x.1) (subst (λ z. Meets z (get (p ++ x.0) v)) (sym (with_map_below p d c x.0))
+      (subst (Meets (d x.0)) (sym (get_get p x.0 v)) (new x.0 (leaf_back t u p x.0 is (subst (IsLeaf types t) x.1 l))))))
+      (λ x. subst (λ z. Meets z (get q v)) (sym (ap (λ p. with_map p d c q) x.2 ∙ with_map_above q x.0 x.1 d c)) (s q l)) b) (split p q)
 
   -- where nothing was, by what has nothing set
   pub sets_blank : (t : TyId) (c : InitMap) (v : Val) (p : Path) (w : Val) → Sets t c v → IsThere p v → get p v ≡ Unset

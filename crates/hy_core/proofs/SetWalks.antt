@@ -1,11 +1,11 @@
 -- Interactions about places of which a flow state says that they are set: none of them reads what is unset, and each effect keeps what `Dropped` says.
-use Rattle.std.proofs.Common.{◌≡◌, ◌≢◌, ⊎_elim, ℕ, zero, suc, ◌<◌, Bool, true, false, cond, nat_lt, List, [], ◌∷◌, ◌++◌, length}
+use Rattle.std.proofs.Common.{◌≡◌, ◌≢◌, inl, inr, ⊎_elim, ℕ, zero, suc, ◌<◌, Bool, true, false, cond, nat_lt, List, [], ◌∷◌, ◌++◌, length}
 use Rattle.std.proofs.Common.{Option, Some, None, slice_get, refl, sym, ap, ◌∙◌, subst, append_assoc, append-nil}
 use Rattle.hy_base.specs.declared.numbers.IntegerType.{IntegerType}
 use Rattle.hy_base.specs.declared.numbers.IntegerType.TheVariants.{Int, Sized}
 use Rattle.hy_base.specs.declared.numbers.Operation.TheVariants as operation
 use Rattle.hy_core.proofs.Arithmetic.{IsProper, proper_fits, GivesOfOne, GivesOfTwo, negated_gives, converted_gives, operated_gives, one_gives, two_give}
-use Rattle.std.specs.Prelude.{Result, Ok, Err, ℤ, pos, not}
+use Rattle.std.specs.Prelude.{Result, Ok, Err, ℤ, pos, not, int_lt}
 use Rattle.std.proofs.lemmas.Bool.{ltb-true}
 use Rattle.std.proofs.lemmas.Bool.Decides.{eqb_tells}
 use Rattle.hy_base.specs.declared.run.End.TheVariants as end
@@ -24,7 +24,7 @@ use Rattle.hy_core.specs.Runs as effect
 use Rattle.hy_core.specs.Runs.{Interaction, Fetch, Inspect, Perform, Return, apply, interpret}
 use Rattle.hy_core.specs.Dropped.{Keeps}
 use Rattle.hy_core.specs.Calm.{IsKept, MayWrite}
-use Rattle.hy_core.specs.Operators.{negated, converted, equal, line_of, index_in, at_end, popped, blanks}
+use Rattle.hy_core.specs.Operators.{negated, converted, equal, line_of, index_in, at_end, popped, blanks, ordered}
 use Rattle.hy_core.specs.Control.{Form, Numbers, Flags, Arrays, form, parts_of, part_type, element_type, blank_of, local_type, Halt, Ends, Stuck, NotSet}
 use Rattle.hy_core.specs.Control.{Control, Setting, stop, key, count_one, with_some, trapped, turn, with_number, with_flag, with_array, with_set}
 use Rattle.hy_core.specs.Control.{with_index, ToWrite, at_part, at_element, walk, spot, read, take, write, read_number, read_flag, read_array, Tuples}
@@ -35,7 +35,8 @@ use Rattle.hy_core.specs.Statements.{built}
 use Rattle.hy_core.specs.Shaped.{HasForm, IsStep, IsOf, IsOfForm, IsPlain, IsBuilt}
 use Rattle.hy_core.specs.Shaped as shaped
 use Rattle.hy_core.specs.Flow as transfer
-use Rattle.hy_core.specs.Flow.{Loan, Status, Own, Param, Opened, Bound, InitState, IsSet, IsUnset, IsKnown, IsSetWith}
+use Rattle.hy_core.specs.Flow.{Loan, Status, Own, Param, Opened, Bound, InitState, IsSet, IsUnset, IsKnown, IsEmpty, IsEmptyWithout, IsNotTied}
+use Rattle.hy_core.specs.Flow.{retied, changed, counted, CountOk, compared, CompareOk, is_whole_local, HasNoElements}
 use Rattle.hy_core.specs.Flow.{IsSetSo, IsUntied, InitMap, all_set, none_set, map_at, with_map, FlowState}
 use Rattle.hy_core.specs.Flow.{Signature, Context, with_init, is_exact, IndexesOk, IsSetAt, IsEntered, NoArray, ReadOk, ChangeOk, StoreOk, GiveOk, TakeOk}
 use Rattle.hy_core.specs.Flow.{set_local, given, stored_as, stored_if, stored, FlowsInto, Computes, TransfersBuilt}
@@ -48,12 +49,13 @@ use Rattle.hy_core.proofs.TypedWalks.{has_blank, sub_part, is_arrays}
 use Rattle.hy_core.proofs.CalmWalks.{Slots, IsQuiet, at, aim_for, exact_indexes, index_has}
 use Rattle.hy_core.proofs.CalmFrames.{context}
 use Rattle.hy_core.proofs.CalmSteps.{Like, like_with, like_count, like_id}
-use Rattle.hy_core.proofs.FlowStates.{Tells, tells_set, tells_unset, tells_other}
+use Rattle.hy_core.proofs.FlowStates.{Tells, tells_set, tells_unset, tells_counts, tells_other, tells_retied}
+use Rattle.hy_core.proofs.SetValues.{array_state, is_filled, array_meets, count_meets, zero_below, sets_told, sets_single}
 use Rattle.hy_core.proofs.SetValues.{Meets, meets_set, no_array, leaf_above, split, whole_get, whole_unset, whole_end, whole_popped, whole_swapped, map_below}
 use Rattle.hy_core.proofs.SetValues.{with_map_above, with_map_below, with_map_apart, type_append, form_type}
 use Rattle.hy_core.proofs.SetValues.{leaf_below, Sets, sets_exact, sets_inner, sets_blank}
-use Rattle.hy_core.proofs.SetValues.{sets_whole, sets_none, sets_over, sets_part, all_sets, small_part}
-use Rattle.hy_core.proofs.SetMemories.{InitMaps, kept_here, Holds, holds_store}
+use Rattle.hy_core.proofs.SetValues.{sets_whole, sets_none, sets_part, all_sets, small_part}
+use Rattle.hy_core.proofs.SetMemories.{InitMaps, kept_here, Holds, holds_store, holds_told}
 
 -- A step leads to a state that stands, or that has halted, and not where something is unset.
 pub data Fine (S : Control → Copies → Type 0) (c : Control) (m : Copies) : Type 0 where
@@ -174,33 +176,53 @@ abbrev pub wholes : InitMaps → ℕ → ℕ → InitState
 wholes E id f = E (at id f) []
 
 -- where one local changes, what is not tied to it tells what it told
-pub tells_change : (E : InitMaps) (id l : ℕ) (c : InitMap) (s e : InitState) → s ≢ IsSetWith l → Tells (wholes E id) s e
+pub tells_change : (E : InitMaps) (id l : ℕ) (c : InitMap) (s e : InitState) → IsNotTied l s → Tells (wholes E id) s e
     → Tells (wholes (set_at E (at id l) c) id) s e
 tells_change E id l c s e free t = tells_other (wholes E id) (wholes (set_at E (at id l) c) id) l s e
     (λ k n. ap (λ c. c []) (set_other E (at id l) c (at id k) (λ z. n (ap (λ k. k.local) z)))) free t
 
-pub tells_set_local : (E : InitMaps) (id l : ℕ) (init : ℕ → InitMap) (c c' : InitMap) (j : ℕ) (r : Path) → init j r ≢ IsSetWith l
-    → Tells (wholes E id) (init j r) (E (at id j) r) → (j ≡ l → Tells (wholes (set_at E (at id l) c') id) (c r) (c' r))
+-- the same of one local and of the others
+tells_in : (E : InitMaps) (id l : ℕ) (init : ℕ → InitMap) (c c' : InitMap) (j : ℕ) (r : Path)
+    → (j ≢ l → Tells (wholes (set_at E (at id l) c') id) (init j r) (E (at id j) r)) → (j ≡ l → Tells (wholes (set_at E (at id l) c') id) (c r) (c' r))
     → Tells (wholes (set_at E (at id l) c') id) (set_local init l c j r) (set_at E (at id l) c' (at id j) r)
-tells_set_local E id l init c c' j r free old new = ⊎_elim
+tells_in E id l init c c' j r old new = ⊎_elim
     (λ y. subst (λ s. Tells F s (set_at E (at id l) c' (at id j) r)) (sym (ap (λ b. cond b c (init j) r) y.0))
     (subst (λ e. Tells F (c r) e) (sym (ap (λ j. set_at E (at id l) c' (at id j) r) y.1 ∙ ap (λ c. c r) (set_same E (at id l) c'))) (new y.1)))
     (λ y. subst (λ s. Tells F s (set_at E (at id l) c' (at id j) r)) (sym (ap (λ b. cond b c (init j) r) y.0))
     (subst (λ e. Tells F (init j r) e) (sym (ap (λ c. c r) (set_other E (at id l) c' (at id j) (λ z. y.1 (ap (λ k. k.local) z)))))
-    (tells_change E id l c' (init j r) (E (at id j) r) free old))) (eqb_tells j l)
+    (old y.1))) (eqb_tells j l)
   where
     F : ℕ → InitState
     F = wholes (set_at E (at id l) c') id
 
--- states that tell of themselves
-abbrev pub Plain : InitMap → Type 0
-Plain d = (F : ℕ → InitState) (q : Path) → Tells F (d q) (d q)
+pub tells_set_local : (E : InitMaps) (id l : ℕ) (init : ℕ → InitMap) (c c' : InitMap) (j : ℕ) (r : Path) → IsNotTied l (init j r)
+    → Tells (wholes E id) (init j r) (E (at id j) r) → (j ≡ l → Tells (wholes (set_at E (at id l) c') id) (c r) (c' r))
+    → Tells (wholes (set_at E (at id l) c') id) (set_local init l c j r) (set_at E (at id l) c' (at id j) r)
+tells_set_local E id l init c c' j r free old new = tells_in E id l init c c' j r (λ n. tells_change E id l c' (init j r) (E (at id j) r) free old) new
 
-pub plain_set : Plain all_set
-plain_set F q = tt
+-- whatever is known of whole locals, the first states tell of the second
+abbrev pub AllTell : InitMap → InitMap → Type 0
+AllTell d d' = (F : ℕ → InitState) (q : Path) → Tells F (d q) (d' q)
 
-pub plain_none : Plain none_set
-plain_none F q = refl
+pub set_tells : AllTell all_set all_set
+set_tells F q = tt
+
+pub none_tells : AllTell none_set none_set
+none_tells F q = refl
+
+-- no state of a place that is changed rests on the local
+pub untied_with : (x : Context) (g : FlowState) (l : ℕ) (p : Path) (d : InitMap) (k : ℕ) → ((t : TyId) (r : Path) → local_type x.fun l ≡ Some t
+    → IsLeaf x.core.types t (p ++ r) → IsNotTied k (d r)) → IsUntied x g k → IsUntied x (with_init g l p d) k
+untied_with x g l p d k free untied j t q e leaf = ⊎_elim
+    (λ a. subst (IsNotTied k) (sym (ap (λ b. cond b (with_map p d (g.init l)) (g.init j) q) a.0))
+    (let f : local_type x.fun l ≡ Some t = ap (local_type x.fun) (sym a.1) ∙ e in
+    with_rel (λ s _. IsNotTied k s) p d d (g.init l) (g.init l) q (λ r is. free t r f (subst (IsLeaf x.core.types t) is leaf)) (untied l t q f leaf)))
+    (λ a. subst (IsNotTied k) (sym (ap (λ b. cond b (with_map p d (g.init l)) (g.init j) q) a.0)) (untied j t q e leaf)) (eqb_tells j l)
+
+-- what is known of an array once its count is stored in a local
+array_tells : (F : ℕ → InitState) (l : ℕ) (vs : Vals) → F l ≡ IsKnown (is_filled vs) → Tells F (IsEmptyWithout l) (array_state vs)
+array_tells F l No e = inr (e, refl)
+array_tells F l (And v vs) e = inl (e, tt)
 
 -- PATHS of steps
 
@@ -435,24 +457,29 @@ module _ (p : Setting) (S : Control → Copies → Type 0) (signatures : ℕ →
   local_is : (l : ℕ) (t : TyId) → ty (mine l) ≡ Some t → local_type k₀.now.fun l ≡ Some t
   local_is l t y = sym (local l) ∙ y
 
-  -- a value is stored at a place of the type, and the map says so
-  pub covered : (g : FlowState) (m : Copies) (h : Now g m) (l : ℕ) (q : Path) (u : TyId) (d : InitMap) (v : Val)
+  -- a value is stored at a place of the type, and its state is d
+  covered_holds : (g : FlowState) (m : Copies) (h : Now g m) (l : ℕ) (q : Path) (u : TyId) (d : InitMap) (v : Val)
       → type_at p.core.types (local_type k₀.now.fun l) q ≡ Some u → MayWrite m (record { key = mine l; path = q })
-      → Fits p.core.types (form p.core.types u) v → Sets p.core.types u d v → Plain d → IsUntied x g l
-      → Now (with_init g l q d) (copying.store m (record { key = mine l; path = q }) v)
-  covered g m h l q u d v is may fits new plain untied = record {
+      → Fits p.core.types (form p.core.types u) v → Sets p.core.types u d v
+      → Holds p.core.types ty n (set_at h.maps (mine l) (with_map q d (h.maps (mine l)))) P (copying.store m (record { key = mine l; path = q }) v)
+  covered_holds g m h l q u d v is may fits new =
+      holds_store p.core.types ty n h.maps _ P m (record { key = mine l; path = q }) v h.holds may below_n
+      (subst (λ f. Fits p.core.types f v) (sym (typed_at g m h l q u is)) fits)
+      (λ k n. set_other h.maps (mine l) (with_map q d (h.maps (mine l))) k n)
+      (λ t y st. subst (λ c. Sets p.core.types t c (put q v (m.value (mine l)))) (sym (set_same h.maps (mine l) (with_map q d (h.maps (mine l)))))
+      (sets_exact p.core.types t u (h.maps (mine l)) d (m.value (mine l)) q v st may.there (ap (λ o. type_at p.core.types o q) (sym (local_is l t y))
+      ∙ is) new))
+
+  -- and what is known then says so
+  covered_as : (init : ℕ → InitMap) (g : FlowState) (m : Copies) (h : Now g m) (l : ℕ) (q : Path) (u : TyId) (d : InitMap) (v : Val)
+      → type_at p.core.types (local_type k₀.now.fun l) q ≡ Some u → MayWrite m (record { key = mine l; path = q })
+      → Fits p.core.types (form p.core.types u) v → Sets p.core.types u d v
+      → Agrees (record g { init = init }) (set_at h.maps (mine l) (with_map q d (h.maps (mine l))))
+      → Now (record g { init = init }) (copying.store m (record { key = mine l; path = q }) v)
+  covered_as init g m h l q u d v is may fits new agrees = record {
     maps = set_at h.maps (mine l) (with_map q d (h.maps (mine l)));
-    holds = holds_store p.core.types ty n h.maps _ P m (record { key = mine l; path = q }) v h.holds may below_n
-        (subst (λ f. Fits p.core.types f v) (sym (typed_at g m h l q u is)) fits)
-        (λ k n. set_other h.maps (mine l) (with_map q d (h.maps (mine l))) k n)
-        (λ t y st. subst (λ c. Sets p.core.types t c (put q v (m.value (mine l)))) (sym (set_same h.maps (mine l) (with_map q d (h.maps (mine l)))))
-        (sets_exact p.core.types t u (h.maps (mine l)) d (m.value (mine l)) q v st may.there (ap (λ o. type_at p.core.types o q) (sym (local_is l t y))
-        ∙ is) new));
-    agrees = λ j t r e leaf. tells_set_local h.maps k₀.now.id l g.init (with_map q d (g.init l)) (with_map q d (h.maps (mine l))) j r
-        (untied j t r e leaf) (h.agrees j t r e leaf) (λ y. with_rel (Tells (wholes (set_at h.maps (mine l) (with_map q d (h.maps (mine l)))) k₀.now.id)) q d d
-        (g.init l) (h.maps (mine l)) r (λ b _. plain _ b)
-        (let f : local_type k₀.now.fun l ≡ Some t = ap (local_type k₀.now.fun) (sym y) ∙ e in
-        tells_change h.maps k₀.now.id l _ (g.init l r) (h.maps (mine l) r) (untied l t r f leaf) (h.agrees l t r f leaf)));
+    holds = covered_holds g m h l q u d v is may fits new;
+    agrees = agrees;
     others = λ k n. set_other h.maps (mine l) (with_map q d (h.maps (mine l))) k (mine_act l k n) ∙ h.others k n;
     ties = h.ties;
     params = h.params;
@@ -460,6 +487,23 @@ module _ (p : Setting) (S : Control → Copies → Type 0) (signatures : ℕ →
     same = h.same;
     sound = sound_apply (effect.Store (record { key = mine l; path = q }) v) m may h.sound;
   }
+
+  -- the flow state tells d of it
+  covered_agrees : (g : FlowState) (m : Copies) (h : Now g m) (l : ℕ) (q : Path) (d d' : InitMap) → AllTell d d' → IsUntied x g l
+      → Agrees (with_init g l q d) (set_at h.maps (mine l) (with_map q d' (h.maps (mine l))))
+  covered_agrees g m h l q d d' tell untied j t r e leaf =
+      tells_set_local h.maps k₀.now.id l g.init (with_map q d (g.init l)) (with_map q d' (h.maps (mine l))) j r
+      (untied j t r e leaf) (h.agrees j t r e leaf) (λ y. with_rel (Tells (wholes (set_at h.maps (mine l) (with_map q d' (h.maps (mine l)))) k₀.now.id)) q d d'
+      (g.init l) (h.maps (mine l)) r (λ b _. tell _ b)
+      (let f : local_type k₀.now.fun l ≡ Some t = ap (local_type k₀.now.fun) (sym y) ∙ e in
+      tells_change h.maps k₀.now.id l _ (g.init l r) (h.maps (mine l) r) (untied l t r f leaf) (h.agrees l t r f leaf)))
+
+  pub covered : (g : FlowState) (m : Copies) (h : Now g m) (l : ℕ) (q : Path) (u : TyId) (d d' : InitMap) (v : Val)
+      → type_at p.core.types (local_type k₀.now.fun l) q ≡ Some u → MayWrite m (record { key = mine l; path = q })
+      → Fits p.core.types (form p.core.types u) v → Sets p.core.types u d' v → AllTell d d' → IsUntied x g l
+      → Now (with_init g l q d) (copying.store m (record { key = mine l; path = q }) v)
+  covered g m h l q u d d' v is may fits new tell untied =
+      covered_as (with_init g l q d).init g m h l q u d' v is may fits new (covered_agrees g m h l q d d' tell untied)
 
   -- a value is stored, and all that was set in the local still is
   pub uncovered : (g : FlowState) (m : Copies) (h : Now g m) (l : ℕ) (q : Path) (v : Val) → MayWrite m (record { key = mine l; path = q })
@@ -625,14 +669,54 @@ module _ (p : Setting) (S : Control → Copies → Type 0) (signatures : ℕ →
         let v = get r (m.value (mine place.local)) in
         good_set p S c v (go c v) m (wh calm.0.kept) (next c v like (fits_there place.local r (form p.core.types u) e) (wh calm.0.kept)) calm.1)
 
+    no_steps : (steps : List Step) → is_whole_local x steps ≡ true → steps ≡ []
+    no_steps [] e = refl
+    no_steps (s ∷ steps) e = absurd (cc)
+
+    -- a whole local is read
+    whole_read : (place : Place) (u : TyId) (go : Control → Val → Interaction Control) → IsOf p.core k₀.now.fun u place → ReadOk x g place
+        → is_whole_local x place.steps ≡ true
+        → ((c : Control) → Like k₀ c → IsKept m (mine place.local) → Sure p S (go c (m.value (mine place.local))) m) → (c : Control)
+        → Like k₀ c → Sure p S (read p c place go) m
+    whole_read place u go of ok whole next = spot_set Reads place u _ of ok.indexes ok.set (λ c r like ends wh e calm.
+        let is : place.steps ≡ [] = no_steps place.steps whole in
+        let z : r ≡ [] = subst (λ steps. EndsAt (is_exact steps) (still steps) r → r ≡ []) (sym is) (λ z. z) ends in
+        good_set p S c (get r (m.value (mine place.local))) (go c (get r (m.value (mine place.local)))) m (wh calm.0.kept)
+        (subst (λ r. Sure p S (go c (get r (m.value (mine place.local)))) m) (sym z) (next c like calm.0.kept)) calm.1)
+
+    -- and stored to; no array is set there
+    whole_write : (place : Place) (u : TyId) (v : Val) (go : Control → Interaction Control) → IsOf p.core k₀.now.fun u place → StoreOk x g place
+        → is_whole_local x place.steps ≡ true
+        → ((c : Control) → Like k₀ c → MayWrite m (whole (mine place.local)) → type_at p.core.types (local_type k₀.now.fun place.local) [] ≡ Some u
+        → Sure p S (go c) (copying.store m (whole (mine place.local)) v))
+        → (c : Control) → Like k₀ c → Sure p S (write p c place v go) m
+    whole_write place u v go of ok is_whole next c like = subst (λ c. Sure p S (write p c place v go) m) (sym like.is)
+        (good_some p S c' (local_type k₀.now.fun place.local) _ m (λ t found.
+        subst (λ steps. Sure p S (walk p ToWrite c' (mine place.local) [] t steps (λ c s t. Perform (effect.Store s v) (go c))) m) (sym is)
+        (λ calm. (
+          subst (λ q. holds_array (get q (m.value (mine place.local))) ≡ false) (ap still is)
+              (unset_over g m h place u of (exact_type place u of exact) (subst (NoArray x g place) exact ok.over) calm.0.kept),
+          next c' (record { turns = like.turns; opened = like.opened; input = like.input; output = like.output; is = refl }) calm.0
+              (ap (type_at p.core.types (local_type k₀.now.fun place.local)) (sym (ap still is)) ∙ exact_type place u of exact) calm.1,
+        ))))
+      where
+        c' : Control
+        c' = record k₀ { turns = like.turns; opened = like.opened; input = like.input; output = like.output }
+
+        is : place.steps ≡ []
+        is = no_steps place.steps is_whole
+
+        exact : is_exact place.steps ≡ true
+        exact = ap is_exact is
+
     -- what stands at a place of the type is given up
     pub gave : (place : Place) (u : TyId) → IsOf p.core k₀.now.fun u place → is_exact place.steps ≡ true → (r : Path) → r ≡ still place.steps
         → IsUntied x g place.local → MayWrite m (record { key = mine place.local; path = r })
         → Now (given x g place) (copying.store m (record { key = mine place.local; path = r }) Unset)
     gave place u of exact r z untied may = subst (λ r. MayWrite m (record { key = mine place.local; path = r })
         → Now (given x g place) (copying.store m (record { key = mine place.local; path = r }) Unset)) (sym z)
-        (λ may. covered g m h place.local (still place.steps) u none_set Unset (exact_type place u of exact) may tt
-        (sets_none p.core.types u) plain_none untied) may
+        (λ may. covered g m h place.local (still place.steps) u none_set none_set Unset (exact_type place u of exact) may tt
+        (sets_none p.core.types u) none_tells untied) may
 
     pub good_take : (place : Place) (u : TyId) (go : Control → Val → Interaction Control) → IsOf p.core k₀.now.fun u place → TakeOk x g place
         → ((c : Control) (v : Val) (m : Copies) → Like k₀ c → Fits p.core.types (form p.core.types u) v → is_whole v ≡ true → Now (given x g place) m
@@ -655,7 +739,7 @@ module _ (p : Setting) (S : Control → Copies → Type 0) (signatures : ℕ →
     -- a walk to a place that is stored to, which makes it so; no array is set there
     pub spot_store : (place : Place) (u : TyId) (go : Control → Spot → TyId → Interaction Control) → IsOf p.core k₀.now.fun u place → StoreOk x g place
         → ((c : Control) (m : Copies) (s : Spot) → Like k₀ c
-        → ((v : Val) (d : InitMap) → Plain d → Sets p.core.types u d v → Fits p.core.types (form p.core.types u) v → is_whole v ≡ true → MayWrite m s
+        → ((v : Val) (d : InitMap) → AllTell d d → Sets p.core.types u d v → Fits p.core.types (form p.core.types u) v → is_whole v ≡ true → MayWrite m s
         → (holds_array (get s.path (m.value s.key)) ≡ false)
         × Now (stored_as x d g place (is_exact place.steps)) (copying.store m s v)) → Sure p S (go c s u) m)
         → (c : Control) → Like k₀ c → Sure p S (spot p ToWrite c place go) m
@@ -663,17 +747,17 @@ module _ (p : Setting) (S : Control → Copies → Type 0) (signatures : ℕ →
       where
         by : (b : Bool) → is_exact place.steps ≡ b → IsEntered x g place b → NoArray x g place b
             → ((c : Control) (m : Copies) (s : Spot) → Like k₀ c
-            → ((v : Val) (d : InitMap) → Plain d → Sets p.core.types u d v → Fits p.core.types (form p.core.types u) v → is_whole v ≡ true → MayWrite m s
+            → ((v : Val) (d : InitMap) → AllTell d d → Sets p.core.types u d v → Fits p.core.types (form p.core.types u) v → is_whole v ≡ true → MayWrite m s
             → (holds_array (get s.path (m.value s.key)) ≡ false) × Now (stored_as x d g place b) (copying.store m s v)) → Sure p S (go c s u) m)
             → (c : Control) → Like k₀ c → Sure p S (spot p ToWrite c place go) m
-        by true exact entered none_there next = spot_blank place u _ of exact (λ c m like h is. next c m _ like (λ v d plain sets fits whole may. (
+        by true exact entered none_there next = spot_blank place u _ of exact (λ c m like h is. next c m _ like (λ v d tell sets fits whole may. (
           unset_over g m h place u of is none_there may.kept,
-          covered g m h place.local (still place.steps) u d v is may fits sets plain ok.untied,
+          covered g m h place.local (still place.steps) u d d v is may fits sets tell ok.untied,
         )))
         by false exact entered none_there next = spot_set Writes place u _ of ok.indexes entered (λ c r like ends wh e.
             let z : (j : Selector) × (rest : Path) × (r ≡ still place.steps ++ j ∷ rest) = subst (λ b. EndsAt b (still place.steps) r) exact ends in
             let a = still_array p.core.types (local_type k₀.now.fun place.local) place.steps u exact of.0 in
-            next c m _ like (λ v d plain sets fits whole may. (
+            next c m _ like (λ v d tell sets fits whole may. (
               no_array p.core.types u (get r (m.value (mine place.local))) (fits_there place.local r (form p.core.types u) e)
                   (λ q arr. absurd (none_there u of.0 q arr)),
               uncovered g m h place.local r v may (subst (λ f. Fits p.core.types f v) (sym e) fits) (λ t y st.
@@ -688,7 +772,7 @@ module _ (p : Setting) (S : Control → Copies → Type 0) (signatures : ℕ →
         → ((c : Control) (m : Copies) → Like k₀ c → Now (stored x g place) m → Sure p S (go c) m)
         → (c : Control) → Like k₀ c → Sure p S (write p c place v go) m
     good_write place u v go of ok fits whole next =
-        spot_store place u _ of ok (λ c m s like store calm. let z = store v all_set plain_set (sets_whole p.core.types u v fits whole) fits whole calm.0 in
+        spot_store place u _ of ok (λ c m s like store calm. let z = store v all_set set_tells (sets_whole p.core.types u v fits whole) fits whole calm.0 in
         (z.0, next c _ like z.1 calm.1))
 
     -- ARRAYS
@@ -697,7 +781,7 @@ module _ (p : Setting) (S : Control → Copies → Type 0) (signatures : ℕ →
         → form p.core.types u ≡ Arrays t → IndexesOk g place.steps → IsSetAt x g place
         → ((c : Control) (r : Path) (vs : Vals) → Like k₀ c → EndsAt (is_exact place.steps) (still place.steps) r
         → form_on p.core.types (form_at p.core.types (ty (mine place.local))) r ≡ form p.core.types u
-        → FitsEach p.core.types t vs → all_whole vs ≡ true → (IsKept m (mine place.local) → is_whole (get r (m.value (mine place.local))) ≡ true)
+        → FitsEach p.core.types t vs → all_whole vs ≡ true → IsKept m (mine place.local) → get r (m.value (mine place.local)) ≡ Array vs
         → Sure p S (go c (record { key = mine place.local; path = r }) vs) m)
         → (c : Control) → Like k₀ c → Sure p S (read_array p c place go) m
     good_arrays place u t go of is idx set next = spot_set Reads place u _ of idx set (λ c r like ends wh e calm.
@@ -707,44 +791,35 @@ module _ (p : Setting) (S : Control → Copies → Type 0) (signatures : ℕ →
         (each_of (Arrays t) vs
         (subst (λ f. Fits p.core.types f (Array vs)) is (subst (Fits p.core.types (form p.core.types u)) q
         (fits_there place.local r (form p.core.types u) e))) refl)
-        (ap is_whole (sym q) ∙ wh calm.0.kept) wh)) calm.1)
+        (ap is_whole (sym q) ∙ wh calm.0.kept) calm.0.kept q)) calm.1)
       where
         each_of : (f : Form) (vs : Vals) → Fits p.core.types f (Array vs) → f ≡ Arrays t → FitsEach p.core.types t vs
         each_of f vs h e = let q : f ≡ Arrays h.0 = h.1 in let s : h.0 ≡ t = cc in subst (λ t. FitsEach p.core.types t vs) s h.2
 
     -- an array is changed where it stands
-    pub array_changed : (place : Place) (u t : TyId) (r : Path) (vs : Vals) → IsOf p.core k₀.now.fun u place → form p.core.types u ≡ Arrays t
+    array_changed : (place : Place) (u t : TyId) (r : Path) (vs : Vals) → IsOf p.core k₀.now.fun u place → form p.core.types u ≡ Arrays t
         → EndsAt (is_exact place.steps) (still place.steps) r
         → form_on p.core.types (form_at p.core.types (ty (mine place.local))) r ≡ form p.core.types u → FitsEach p.core.types t vs → all_whole vs ≡ true
-        → (IsKept m (mine place.local) → is_whole (get r (m.value (mine place.local))) ≡ true)
-        → MayWrite m (record { key = mine place.local; path = r })
-        → Now g (copying.store m (record { key = mine place.local; path = r }) (Array vs))
-    array_changed place u t r vs of is ends e each whole was may =
-        uncovered g m h place.local r (Array vs) may (subst (λ f. Fits p.core.types f (Array vs)) (sym e) fits)
-        (λ y q st. by (is_exact place.steps) refl ends y q st)
+        → IsUntied x g place.local → MayWrite m (record { key = mine place.local; path = r })
+        → Now (changed x g place) (copying.store m (record { key = mine place.local; path = r }) (Array vs))
+    array_changed place u t r vs of is ends e each whole untied may = by (is_exact place.steps) refl ends
       where
         fits : Fits p.core.types (form p.core.types u) (Array vs)
         fits = (t, is, each)
 
-        no_truth : (b : Bool) → get r (m.value (mine place.local)) ≢ Truth b
-        no_truth b f = let y : Fits p.core.types (Arrays t) (Truth b) = subst (λ a. Fits p.core.types a (Truth b)) is
-            (subst (Fits p.core.types (form p.core.types u)) f (fits_there place.local r (form p.core.types u) e)) in absurd (cc)
-
-        by : (b : Bool) → is_exact place.steps ≡ b → EndsAt b (still place.steps) r → (y : TyId) → local_type k₀.now.fun place.local ≡ Some y
-            → Sets p.core.types y (h.maps (mine place.local)) (m.value (mine place.local))
-            → Sets p.core.types y (h.maps (mine place.local)) (put r (Array vs) (m.value (mine place.local)))
-        by true exact z y q st =
-            subst (λ r. IsThere r (m.value (mine place.local))
-            → Sets p.core.types y (h.maps (mine place.local)) (put r (Array vs) (m.value (mine place.local)))) (sym z)
-            (λ there. sets_over p.core.types y u t _ _ (still place.steps) (Array vs) st there (ap (λ o. type_at p.core.types o (still place.steps)) (sym q)
-            ∙ exact_type place u of exact) is (subst (λ r. is_whole (get r (m.value (mine place.local))) ≡ true) z (was may.kept)) whole
-            (λ b f. no_truth b (ap (λ r. get r (m.value (mine place.local))) z ∙ f))) may.there
-        by false exact z y q st =
+        by : (b : Bool) → is_exact place.steps ≡ b → EndsAt b (still place.steps) r
+            → Now (stored_if x g place b) (copying.store m (record { key = mine place.local; path = r }) (Array vs))
+        by true exact z = subst (λ r. MayWrite m (record { key = mine place.local; path = r })
+            → Now (stored_if x g place true) (copying.store m (record { key = mine place.local; path = r }) (Array vs))) (sym z)
+            (λ may. covered g m h place.local (still place.steps) u all_set all_set (Array vs) (exact_type place u of exact) may fits
+            (sets_whole p.core.types u (Array vs) fits whole) set_tells untied) may
+        by false exact z =
             let a = still_array p.core.types (local_type k₀.now.fun place.local) place.steps u exact of.0 in
+            uncovered g m h place.local r (Array vs) may (subst (λ f. Fits p.core.types f (Array vs)) (sym e) fits) (λ y q st.
             subst (λ r. IsThere r (m.value (mine place.local))
             → Sets p.core.types y (h.maps (mine place.local)) (put r (Array vs) (m.value (mine place.local)))) (sym z.2)
             (λ there. sets_inner p.core.types y a.0 a.1 (h.maps (mine place.local)) (m.value (mine place.local)) (still place.steps) z.0 z.1 (Array vs) st
-            there (ap (λ o. type_at p.core.types o (still place.steps)) (sym q) ∙ a.2) a.3 whole) may.there
+            there (ap (λ o. type_at p.core.types o (still place.steps)) (sym q) ∙ a.2) a.3 whole) may.there)
 
   -- OPERATIONS, with what is known after them
 
@@ -871,7 +946,7 @@ module _ (p : Setting) (S : Control → Copies → Type 0) (signatures : ℕ →
       counting stores is c like = one_from _ _ c is (λ a ia ok.
           let wa : IsOfForm p.core k₀.now.fun (Arrays ia.0) a = ia.1 in
           good_arrays g m h a wa.0 ia.0 _ wa.1 wa.2 ok.indexes ok.set
-          (λ c r vs like _ _ _ _ _. computed (Numbers Int) (Number Int (pos (many vs))) stores (refl, tt) refl c like) c like)
+          (λ c r vs like _ _ _ _ _ _. computed (Numbers Int) (Number Int (pos (many vs))) stores (refl, tt) refl c like) c like)
 
       reading : (s : ℕ) (got : Got) → shaped.Stores p.core k₀.now.fun to (IsOfForm p.core k₀.now.fun (Numbers Int)) → (c : Control) → Like k₀ c
           → Sure p S (reads p c to s got) m
@@ -885,20 +960,164 @@ module _ (p : Setting) (S : Control → Copies → Type 0) (signatures : ℕ →
       checking s true none c like calm = are_done c like none
       checking s false none c like calm = good_trap p S c trap.Precondition s m calm
 
-      new_array : shaped.Stores p.core k₀.now.fun to (λ place. (t : TyId) × IsOfForm p.core k₀.now.fun (Arrays t) place) → (c : Control) → Like k₀ c
-          → Sure p S (store_to p c to (Array No)) m
-      new_array of c like = by to of t
-        where
-          by : (to : Option Place) → shaped.Stores p.core k₀.now.fun to (λ place. (t : TyId) × IsOfForm p.core k₀.now.fun (Arrays t) place)
-              → Computes x g to from d → Sure p S (store_to p c to (Array No)) m
-          by None of t = absurd of
-          by (Some place) of t = let w : IsOfForm p.core k₀.now.fun (Arrays of.0) place = of.1 in
-              store_good g m h (Some place) w.0 (Array No) w.1 t.1 (of.0, w.2, tt) refl c like
+    -- OPERATIONS of which it is known whether an array has an element after them
+
+    new_array : (g : FlowState) (m : Copies) → Now g m → (to : Option Place) → transfer.StoresAs x (λ q. IsEmpty) g to d
+        → shaped.Stores p.core k₀.now.fun to (λ place. (t : TyId) × IsOfForm p.core k₀.now.fun (Arrays t) place) → (c : Control) → Like k₀ c
+        → Sure p S (store_to p c to (Array No)) m
+    new_array g m h None t of c like = absurd of
+    new_array g m h (Some place) t of c like = let w : IsOfForm p.core k₀.now.fun (Arrays of.0) place = of.1 in
+        spot_store g m h place w.0 _ w.1 t.0 (λ c m s like store calm.
+        let z = store (Array No) (λ q. IsEmpty) (λ F q. refl) (sets_single p.core.types w.0 IsEmpty (Array No) (ap parts_of w.2) refl) (of.0, w.2, tt) refl
+        calm.0 in
+        (z.0, done (stored_as x (λ q. IsEmpty) g place (is_exact place.steps)) c _ like z.1 t.1)) c like
+
+    -- a count is stored in a local
+    now_counted : (g : FlowState) (m : Copies) (h : Now g m) (to array : Place) (u a : TyId) (vs : Vals) → CountOk x g to array
+        → type_at p.core.types (local_type k₀.now.fun to.local) [] ≡ Some u → form p.core.types u ≡ Numbers Int
+        → type_at p.core.types (local_type k₀.now.fun array.local) (still array.steps) ≡ Some a → parts_of (form p.core.types a) ≡ []
+        → MayWrite m (whole (mine to.local)) → IsKept m (mine array.local) → get (still array.steps) (m.value (mine array.local)) ≡ Array vs
+        → all_whole vs ≡ true → Now (counted x g to array) (copying.store m (whole (mine to.local)) (Number Int (pos (many vs))))
+    now_counted g m h to array u a vs ok is is_number is_array leaf may kept there ws = record {
+      maps = E';
+      holds = holds_told p.core.types ty n E P after (mine array.local) (with_map (still array.steps) (λ q. array_state vs) (E (mine array.local)))
+          (covered_holds g m h to.local [] u (λ q. IsKnown (is_filled vs)) (Number Int (pos (many vs))) is may
+          (subst (λ f. Fits p.core.types f (Number Int (pos (many vs)))) (sym is_number) (refl, tt))
+          (sets_single p.core.types u (IsKnown (is_filled vs)) (Number Int (pos (many vs))) (ap parts_of is_number) (count_meets vs))) kept
+          (λ t y st. sets_told p.core.types t a (E (mine array.local)) (λ q. array_state vs) (after.value (mine array.local)) (still array.steps) st
+          (ap (λ o. type_at p.core.types o (still array.steps)) (sym (local_is array.local t y)) ∙ is_array)
+          (sets_single p.core.types a (array_state vs) _ leaf (subst (Meets (array_state vs)) (sym there') (array_meets vs ws))));
+      agrees = agrees;
+      others = λ k n. set_other E (mine array.local) _ k (mine_act array.local k n) ∙ set_other h.maps (mine to.local) _ k (mine_act to.local k n)
+          ∙ h.others k n;
+      ties = h.ties;
+      params = h.params;
+      bound = h.bound;
+      same = h.same;
+      sound = sound_apply (effect.Store (whole (mine to.local)) (Number Int (pos (many vs)))) m may h.sound;
+    }
+      where
+        -- once the count is stored
+        mid : FlowState
+        mid = with_init g to.local [] all_set
+
+        after : Copies
+        after = copying.store m (whole (mine to.local)) (Number Int (pos (many vs)))
+
+        E : InitMaps
+        E = set_at h.maps (mine to.local) (with_map [] (λ q. IsKnown (is_filled vs)) (h.maps (mine to.local)))
+
+        E' : InitMaps
+        E' = set_at E (mine array.local) (with_map (still array.steps) (λ q. array_state vs) (E (mine array.local)))
+
+        other : mine array.local ≢ mine to.local
+        other e = ok.other (sym (ap (λ k. k.local) e))
+
+        there' : get (still array.steps) (after.value (mine array.local)) ≡ Array vs
+        there' = ap (get (still array.steps)) (set_other m.value (mine to.local) _ (mine array.local) other) ∙ there
+
+        untied : IsUntied x mid array.local
+        untied = untied_with x g to.local [] all_set array.local (λ t r e leaf. tt) ok.untied
+
+        old : Agrees mid E
+        old = covered_agrees g m h to.local [] all_set (λ q. IsKnown (is_filled vs)) (λ F q. tt) ok.store.untied
+
+        known : wholes E' k₀.now.id to.local ≡ IsKnown (is_filled vs)
+        known = ap (λ c. c []) (set_other E (mine array.local) _ (mine to.local) (λ e. other (sym e))
+            ∙ set_same h.maps (mine to.local) (with_map [] (λ q. IsKnown (is_filled vs)) (h.maps (mine to.local))))
+
+        agrees : Agrees (counted x g to array) E'
+        agrees j t r e leaf = tells_set_local E k₀.now.id array.local mid.init (with_map (still array.steps) (λ q. IsEmptyWithout to.local) (mid.init array.local))
+            (with_map (still array.steps) (λ q. array_state vs) (E (mine array.local))) j r (untied j t r e leaf) (old j t r e leaf) (λ y.
+            with_rel (Tells (wholes E' k₀.now.id)) (still array.steps) (λ q. IsEmptyWithout to.local) (λ q. array_state vs) (mid.init array.local)
+            (E (mine array.local)) r (λ b _. array_tells (wholes E' k₀.now.id) to.local vs known)
+            (let f : local_type k₀.now.fun array.local ≡ Some t = ap (local_type k₀.now.fun) (sym y) ∙ e in
+            tells_change E k₀.now.id array.local _ (mid.init array.local r) (E (mine array.local) r) (untied array.local t r f leaf)
+            (old array.local t r f leaf)))
+
+    counting_to : (g : FlowState) (m : Copies) → Now g m → (to : Place) (from : List Place)
+        → transfer.One x from (λ a. CountOk x g to a × FlowsInto x (counted x g to a) d) → IsOfForm p.core k₀.now.fun (Numbers Int) to
+        → shaped.One p.core k₀.now.fun from (λ array. (t : TyId) × IsOfForm p.core k₀.now.fun (Arrays t) array) → (c : Control) → Like k₀ c
+        → Sure p S (with_one c from (λ array. read_array p c array (λ c at vs. store_to p c (Some to) (Number Int (pos (many vs)))))) m
+    counting_to g m h to [] t wt is c like = absurd t
+    counting_to g m h to (array ∷ (b ∷ more)) t wt is c like = absurd is
+    counting_to g m h to (array ∷ []) t wt is c like =
+        let wa : IsOfForm p.core k₀.now.fun (Arrays is.0) array = is.1 in
+        let ok : CountOk x g to array = t.0 in
+        let is_array = exact_type g m h array wa.0 wa.1 ok.exact in
+        good_arrays g m h array wa.0 is.0 _ wa.1 wa.2 ok.read.indexes ok.read.set (λ c r vs like ends e each ws kept there.
+        let z : r ≡ still array.steps = subst (λ b. EndsAt b (still array.steps) r) ok.exact ends in
+        whole_write g m h to wt.0 (Number Int (pos (many vs))) Return wt.1 ok.store ok.whole (λ c like may is calm. done (counted x g to array) c _ like
+        (now_counted g m h to array wt.0 wa.0 vs ok is wt.2 is_array (ap parts_of wa.2) may kept
+        (ap (λ r. get r (m.value (mine array.local))) (sym z) ∙ there) ws) t.1) c like) c like
+
+    -- whether 0 is below a number is stored in a local
+    now_compared : (g : FlowState) (m : Copies) (h : Now g m) (to a n : Place) (u ta tn : TyId) (e : Bool) → CompareOk x g to a n
+        → type_at p.core.types (local_type k₀.now.fun to.local) [] ≡ Some u → form p.core.types u ≡ Flags
+        → local_type k₀.now.fun a.local ≡ Some ta → parts_of (form p.core.types ta) ≡ []
+        → local_type k₀.now.fun n.local ≡ Some tn → parts_of (form p.core.types tn) ≡ []
+        → MayWrite m (whole (mine to.local)) → IsKept m (mine a.local) → IsKept m (mine n.local)
+        → ordered int_lt (m.value (mine a.local)) (m.value (mine n.local)) ≡ Some e
+        → Now (compared x g to n) (copying.store m (whole (mine to.local)) (Truth e))
+    now_compared g m h to a n u ta tn e ok is is_flag type_a leaf_a type_n leaf_n may kept_a kept_n below =
+        covered_as (compared x g to n).init g m h to.local [] u (λ q. IsKnown e) (Truth e) is may
+        (subst (λ f. Fits p.core.types f (Truth e)) (sym is_flag) refl) (sets_single p.core.types u (IsKnown e) (Truth e) (ap parts_of is_flag) refl) agrees
+      where
+        E : InitMaps
+        E = set_at h.maps (mine to.local) (with_map [] (λ q. IsKnown e) (h.maps (mine to.local)))
+
+        others : (k : ℕ) → k ≢ to.local → wholes E k₀.now.id k ≡ wholes h.maps k₀.now.id k
+        others k n = ap (λ c. c []) (set_other h.maps (mine to.local) _ (mine k) (λ z. n (ap (λ k. k.local) z)))
+
+        known : wholes E k₀.now.id to.local ≡ IsKnown e
+        known = ap (λ c. c []) (set_same h.maps (mine to.local) (with_map [] (λ q. IsKnown e) (h.maps (mine to.local))))
+
+        zero_is : Meets (IsKnown false) (m.value (mine a.local))
+        zero_is = subst (λ s. Meets s (m.value (mine a.local))) (tells_counts (wholes h.maps k₀.now.id) (IsKnown false) (g.init a.local [])
+            (h.maps (mine a.local) []) ok.known (h.agrees a.local ta [] type_a (ta, refl, leaf_a)))
+            (local_sets g m h a.local ta type_a kept_a [] (ta, refl, leaf_a))
+
+        same : (b : Bool) → wholes h.maps k₀.now.id n.local ≡ IsKnown b → wholes E k₀.now.id to.local ≡ IsKnown b
+        same b w = known ∙ ap IsKnown (zero_below (m.value (mine a.local)) (m.value (mine n.local)) b e zero_is
+            (subst (λ s. Meets s (m.value (mine n.local))) w (local_sets g m h n.local tn type_n kept_n [] (tn, refl, leaf_n))) below)
+
+        agrees : Agrees (compared x g to n) E
+        agrees j t r f leaf = tells_in h.maps k₀.now.id to.local (λ l q. retied n.local to.local (g.init l q)) (with_map [] all_set (λ q.
+            retied n.local to.local (g.init to.local q))) (with_map [] (λ q. IsKnown e) (h.maps (mine to.local))) j r
+            (λ _. tells_retied (wholes h.maps k₀.now.id) (wholes E k₀.now.id) n.local to.local (g.init j r) (h.maps (mine j) r) others
+            (ok.store.untied j t r f leaf) same (h.agrees j t r f leaf)) (λ _. tt)
+
+    comparing_to : (g : FlowState) (m : Copies) → Now g m → (to : Place) (from : List Place) (spans : List ℕ)
+        → transfer.Two x from (λ a b. CompareOk x g to a b × FlowsInto x (compared x g to b) d) → shaped.Compares p.core k₀.now.fun (Some to) from spans
+        → (c : Control) → Like k₀ c → Sure p S (compares p c (Some to) from (ordered int_lt)) m
+    comparing_to g m h to [] spans t is c like = absurd t
+    comparing_to g m h to (a ∷ []) spans t is c like = absurd t
+    comparing_to g m h to (a ∷ (b ∷ (z ∷ more))) spans t is c like = let y = is.1 in absurd y
+    comparing_to g m h to (a ∷ (b ∷ [])) spans t is c like =
+        let ok : CompareOk x g to a b = t.0 in
+        let ab = is.1 in
+        let wt : IsOfForm p.core k₀.now.fun Flags to = is.0 in
+        let wa : IsOfForm p.core k₀.now.fun (Numbers ab.0) a = ab.1 in
+        let wb : IsOfForm p.core k₀.now.fun (Numbers ab.0) b = ab.2 in
+        whole_read g m h a wa.0 _ wa.1 ok.read_zero ok.whole_zero (λ c like kept_a. whole_read g m h b wb.0 _ wb.1 ok.read ok.whole_read (λ c like kept_b.
+        good_some p S c (ordered int_lt (m.value (mine a.local)) (m.value (mine b.local))) _ m (λ e below.
+        whole_write g m h to wt.0 (Truth e) Return wt.1 ok.store ok.whole (λ c like may is calm. done (compared x g to b) c _ like
+        (now_compared g m h to a b wt.0 wa.0 wb.0 e ok is wt.2 (whole_type a wa.0 wa.1 ok.whole_zero) (ap parts_of wa.2) (whole_type b wb.0 wb.1 ok.whole_read)
+        (ap parts_of wb.2) may kept_a kept_b below) t.1) c like)) c like) c like
+      where
+        whole_type : (place : Place) (u : TyId) → IsOf p.core k₀.now.fun u place → is_whole_local x place.steps ≡ true
+            → local_type k₀.now.fun place.local ≡ Some u
+        whole_type place u of whole = none (local_type k₀.now.fun place.local)
+            (subst (λ steps. steps_type p.core.types (local_type k₀.now.fun place.local) steps ≡ Some u) (no_steps g m h place.steps whole) of.0)
+          where
+            none : (o : Option TyId) → steps_type p.core.types o [] ≡ Some u → o ≡ Some u
+            none None e = absurd (cc)
+            none (Some t) e = e
 
     -- OPERATIONS on an array where it stands
 
     push_good : (g : FlowState) (m : Copies) → Now g m → (from : List Place)
-        → transfer.Two x from (λ array a. TakeOk x g a × ChangeOk x (given x g a) array × FlowsInto x (given x g a) d)
+        → transfer.Two x from (λ array a. TakeOk x g a × ChangeOk x (given x g a) array × FlowsInto x (changed x (given x g a) array) d)
         → shaped.Two p.core k₀.now.fun from (λ array a. (t : TyId) × IsOfForm p.core k₀.now.fun (Arrays t) array × IsOf p.core k₀.now.fun t a)
         → (c : Control) → Like k₀ c
         → Sure p S (with_two c from
@@ -910,14 +1129,14 @@ module _ (p : Setting) (S : Control → Copies → Type 0) (signatures : ℕ →
         let wa : IsOf p.core k₀.now.fun is.0 a = is.2 in
         let w : IsOfForm p.core k₀.now.fun (Arrays is.0) array = is.1 in
         good_take g m h a is.0 _ wa t.0 (λ c v m like fits whole now. good_arrays (given x g a) m now array w.0 is.0 _ w.1 w.2 t.1.indexes t.1.set
-        (λ c r vs like ends e each ws was calm. (
+        (λ c r vs like ends e each ws _ _ calm. (
           tt,
-          done (given x g a) c _ like (array_changed (given x g a) m now array w.0 is.0 r (at_end vs v) w.1 w.2 ends e
-              (each_end p.core.types is.0 vs v each fits) (whole_end vs v ws whole) was calm.0) t.2,
+          done (changed x (given x g a) array) c _ like (array_changed (given x g a) m now array w.0 is.0 r (at_end vs v) w.1 w.2 ends e
+              (each_end p.core.types is.0 vs v each fits) (whole_end vs v ws whole) t.1.untied calm.0) t.2,
         )) c like) c like
 
     pop_good : (g : FlowState) (m : Copies) → Now g m → (to : Option Place) (from : List Place) (spans : List ℕ)
-        → transfer.One x from (λ array. ChangeOk x g array × transfer.Stores x g to d)
+        → transfer.One x from (λ array. ChangeOk x g array × transfer.Stores x (changed x g array) to d)
         → shaped.One p.core k₀.now.fun from (λ array. (t : TyId) × IsOfForm p.core k₀.now.fun (Arrays t) array
         × shaped.Stores p.core k₀.now.fun to (IsOf p.core k₀.now.fun t)) → (c : Control) → Like k₀ c
         → Sure p S (with_one c from (λ array. with_one c spans (λ s. read_array p c array (λ c at vs. pop p c to s at vs)))) m
@@ -925,23 +1144,23 @@ module _ (p : Setting) (S : Control → Copies → Type 0) (signatures : ℕ →
     pop_good g m h to (array ∷ (b ∷ more)) spans t is c like = absurd is
     pop_good g m h to (array ∷ []) spans t is c like =
         any_one p S c spans _ m (λ s. good_arrays g m h array is.1.0 is.0 _ is.1.1 is.1.2 t.0.indexes t.0.set
-        (λ c r vs like ends e each ws was. by s r vs ends e each ws was c like) c like)
+        (λ c r vs like ends e each ws _ _. by s r vs ends e each ws c like) c like)
       where
         by : (s : ℕ) (r : Path) (vs : Vals) → EndsAt (is_exact array.steps) (still array.steps) r
             → form_on p.core.types (form_at p.core.types (ty (mine array.local))) r ≡ form p.core.types is.1.0
-            → FitsEach p.core.types is.0 vs → all_whole vs ≡ true → (IsKept m (mine array.local) → is_whole (get r (m.value (mine array.local))) ≡ true)
+            → FitsEach p.core.types is.0 vs → all_whole vs ≡ true
             → (c : Control) → Like k₀ c → Sure p S (pop p c to s (record { key = mine array.local; path = r }) vs) m
-        by s r No ends e each ws was c like calm = good_trap p S c trap.Empty s m calm
-        by s r (And v vs) ends e each ws was c like calm =
+        by s r No ends e each ws c like calm = good_trap p S c trap.Empty s m calm
+        by s r (And v vs) ends e each ws c like calm =
             let y = each_popped p.core.types is.0 v vs each.0 each.1 in
             let z = whole_popped v vs ws in (
               tt,
-              store_good g _ (array_changed g m h array is.1.0 is.0 r (popped v vs).rest is.1.1 is.1.2 ends e y.0 z.0 was calm.0) to is.0
-                  (popped v vs).last is.2 t.1 y.1 z.1 c like calm.1,
+              store_good (changed x g array) _ (array_changed g m h array is.1.0 is.0 r (popped v vs).rest is.1.1 is.1.2 ends e y.0 z.0 t.0.untied calm.0) to
+                  is.0 (popped v vs).last is.2 t.1 y.1 z.1 c like calm.1,
             )
 
     swap_good : (g : FlowState) (m : Copies) → Now g m → (from : List Place) (spans : List ℕ)
-        → transfer.Three x from (λ array a b. ReadOk x g a × ReadOk x g b × ChangeOk x g array × FlowsInto x g d)
+        → transfer.Three x from (λ array a b. ReadOk x g a × ReadOk x g b × ChangeOk x g array × FlowsInto x (changed x g array) d)
         → shaped.Three p.core k₀.now.fun from (λ array a b. (t : TyId) × IsOfForm p.core k₀.now.fun (Arrays t) array
         × IsOfForm p.core k₀.now.fun (Numbers Int) a × IsOfForm p.core k₀.now.fun (Numbers Int) b) → (c : Control) → Like k₀ c
         → Sure p S (with_three c from (λ array a b. with_two c spans (λ s t. swap p c array a b s t))) m
@@ -956,22 +1175,22 @@ module _ (p : Setting) (S : Control → Copies → Type 0) (signatures : ℕ →
         any_two p S c spans _ m
         (λ s s'. good_read g m h y wa.0 _ wa.1 t.0 (λ c v like _ whole. good_number p S c v _ m whole
         (λ i. good_read g m h z wb.0 _ wb.1 t.1 (λ c v like _ whole. good_number p S c v _ m whole (λ j.
-        good_arrays g m h array w.0 is.0 _ w.1 w.2 t.2.indexes t.2.set (λ c r vs like ends e each ws was.
+        good_arrays g m h array w.0 is.0 _ w.1 w.2 t.2.indexes t.2.set (λ c r vs like ends e each ws _ _.
         good_index p S c s (index_in (many vs) i) _ m (λ a ea. good_index p S c s' (index_in (many vs) j) _ m (λ b eb calm. (
           tt,
-          done g c _ like (array_changed g m h array w.0 is.0 r (swapped a b vs) w.1 w.2 ends e (each_swapped p.core.types is.0 a b vs each)
-              (whole_swapped a b vs (index_has (many vs) i a ea) (index_has (many vs) j b eb) ws) was calm.0) t.3,
+          done (changed x g array) c _ like (array_changed g m h array w.0 is.0 r (swapped a b vs) w.1 w.2 ends e (each_swapped p.core.types is.0 a b vs each)
+              (whole_swapped a b vs (index_has (many vs) i a ea) (index_has (many vs) j b eb) ws) t.2.untied calm.0) t.3,
         )))) c like)) c like)) c like)
 
     free_good : (g : FlowState) (m : Copies) → Now g m → (from : List Place)
-        → transfer.One x from (λ array. TakeOk x g array × FlowsInto x (given x g array) d)
+        → transfer.One x from (λ array. TakeOk x g array × FlowsInto x (given x g array) d × HasNoElements x g array)
         → shaped.One p.core k₀.now.fun from (λ array. (t : TyId) × IsOfForm p.core k₀.now.fun (Arrays t) array)
         → (c : Control) → Like k₀ c → Sure p S (with_one c from (λ array. read_array p c array (λ c at vs. Perform (effect.Clear at) (Return c)))) m
     free_good g m h [] t is c like = absurd t
     free_good g m h (array ∷ (b ∷ more)) t is c like = absurd is
     free_good g m h (array ∷ []) t is c like =
         let w : IsOfForm p.core k₀.now.fun (Arrays is.0) array = is.1 in
-        good_arrays g m h array w.0 is.0 _ w.1 w.2 (exact_indexes g array.steps t.0.give.exact) t.0.set (λ c r vs like ends e each ws was calm. (
+        good_arrays g m h array w.0 is.0 _ w.1 w.2 (exact_indexes g array.steps t.0.give.exact) t.0.set (λ c r vs like ends e each ws _ _ calm. (
           tt,
           done (given x g array) c _ like (gave g m h array w.0 w.1 t.0.give.exact r (subst (λ b. EndsAt b (still array.steps) r) t.0.give.exact ends)
               t.0.give.untied calm.0) t.1,
@@ -990,16 +1209,20 @@ module _ (p : Setting) (S : Control → Copies → Type 0) (signatures : ℕ →
     built_good g m h (Convert u) to from spans t is c like =
         changes g m h to from t spans u (converted u) is.0 _ is.1 (λ a ia. (ia.0, ia.1, converted_gives u ia.0)) c like
     built_good g m h Eq to from spans t is c like = equating g m h to from t is.0 is.1 c like
-    built_good g m h Lt to from spans t is c like = comparing g m h to from t spans _ is c like
+    built_good g m h Lt to from spans (inl t) is c like = comparing g m h to from t spans _ is c like
+    built_good g m h Lt None from spans (inr t) is c like = absurd t
+    built_good g m h Lt (Some to) from spans (inr t) is c like = comparing_to g m h to from spans t is c like
     built_good g m h Le to from spans t is c like = comparing g m h to from t spans _ is c like
     built_good g m h Not to from spans t is c like =
         one_from g m h to from t _ _ c is.1
         (λ a ia ok. flag_of g m h to from t a _ ia ok (λ c b like. computed g m h to from t Flags (Truth (not b)) is.0 refl refl c like) c like)
-    built_good g m h NewArray to from spans t is c like = new_array g m h to from t is.0 c like
+    built_good g m h NewArray to from spans t is c like = new_array g m h to t is.0 c like
     built_good g m h Push to from spans t is c like = push_good g m h from t is.1 c like
     built_good g m h Pop to from spans t is c like = pop_good g m h to from spans t is.0 c like
     built_good g m h Swap to from spans t is c like = swap_good g m h from spans t is.1 c like
-    built_good g m h Count to from spans t is c like = counting g m h to from t is.0 is.1 c like
+    built_good g m h Count to from spans (inl t) is c like = counting g m h to from t is.0 is.1 c like
+    built_good g m h Count None from spans (inr t) is c like = absurd t
+    built_good g m h Count (Some to) from spans (inr t) is c like = counting_to g m h to from t is.0 is.1 c like
     built_good g m h FreeArray to from spans t is c like = free_good g m h from t.1 is.1 c like
     built_good g m h Print to from spans t is c like = printing g m h to from t is.0 is.1 c like
     built_good g m h Read to from spans t is c like = any_one p S c spans _ m (λ s. reading g m h to from t s (read_line p.cut c.input) is.0 c like)

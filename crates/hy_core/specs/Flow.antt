@@ -9,10 +9,10 @@ use Rattle.hy_core.specs.Plain.{Slide, Yield, If, While, Break, Continue, Leave,
 use Rattle.hy_core.specs.Plain.{Core}
 use Rattle.hy_core.specs.Values.{selector_eq, Path, Apart}
 use Rattle.hy_core.specs.Memory.{Way, Reads, Writes}
-use Rattle.hy_core.specs.Control.{Form, Numbers, Flags, Tuples, Products, Arrays, Unknown, form, local_type, Stage, Deinitialises, GivesUp}
+use Rattle.hy_core.specs.Control.{Form, Numbers, Flags, Tuples, Products, Arrays, Unknown, form, parts_of, local_type, Stage, Deinitialises, GivesUp}
 use Rattle.hy_core.specs.Statements.{way}
 use Rattle.hy_core.specs.Shaped.{filled_by}
-use Rattle.hy_core.specs.Typing.{Among, all, place_type, IsLeaf, IsArrayAt, still, still_type}
+use Rattle.hy_core.specs.Typing.{Among, all, type_at, place_type, IsLeaf, IsArrayAt, still, still_type}
 
 -- WHAT IS SET
 
@@ -22,8 +22,11 @@ use Rattle.hy_core.specs.Typing.{Among, all, place_type, IsLeaf, IsArrayAt, stil
 pub data InitState : Type 0 where
   IsSet : InitState
   IsUnset : InitState
-  -- set, to this truth value
+  -- set, to this truth value; or to 0, or to a number above 0
   IsKnown : Bool → InitState
+  -- an array that is set and has no element, or has none where a local is false or 0 and is else true or above 0
+  IsEmpty : InitState
+  IsEmptyWithout : (local : ℕ) → InitState
   IsDoubtful : InitState
   IsSetWith : (flag : ℕ) → InitState
 
@@ -31,6 +34,8 @@ abbrev pub IsSetSo : InitState → Type 0
 IsSetSo IsSet = Unit {0}
 IsSetSo IsUnset = ⊥
 IsSetSo (IsKnown b) = Unit {0}
+IsSetSo IsEmpty = Unit {0}
+IsSetSo (IsEmptyWithout l) = Unit {0}
 IsSetSo IsDoubtful = ⊥
 IsSetSo (IsSetWith f) = ⊥
 
@@ -39,8 +44,20 @@ abbrev pub Counts : (wanted : InitState) → InitState → Type 0
 Counts IsSet s = IsSetSo s
 Counts IsUnset s = s ≡ IsUnset
 Counts (IsKnown b) s = s ≡ IsKnown b
+Counts IsEmpty s = s ≡ IsEmpty
+Counts (IsEmptyWithout l) s = ⊥
 Counts IsDoubtful s = ⊥
 Counts (IsSetWith f) s = ⊥
+
+-- the state does not rest on the local
+abbrev pub IsNotTied : ℕ → InitState → Type 0
+IsNotTied l IsSet = Unit {0}
+IsNotTied l IsUnset = Unit {0}
+IsNotTied l (IsKnown b) = Unit {0}
+IsNotTied l IsEmpty = Unit {0}
+IsNotTied l (IsEmptyWithout k) = k ≢ l
+IsNotTied l IsDoubtful = Unit {0}
+IsNotTied l (IsSetWith k) = k ≢ l
 
 -- the state of each part of a place, by path
 abbrev pub InitMap : Type 0
@@ -196,7 +213,9 @@ IndexesOk g (Index l s ∷ steps) = MayReadAt g l [] × IsSetSo (g.init l []) ×
 
 -- the state of what a `Set` stores
 abbrev pub constant_state : Form → ℤ → InitState
-constant_state (Numbers t) n = IsSet
+constant_state (Numbers t) (pos zero) = IsKnown false
+constant_state (Numbers t) (pos (suc n)) = IsKnown true
+constant_state (Numbers t) (negsuc n) = IsSet
 constant_state Flags (pos zero) = IsKnown false
 constant_state Flags (pos (suc n)) = IsKnown true
 constant_state Flags (negsuc n) = IsSet
@@ -205,13 +224,25 @@ constant_state (Products d parts) n = IsSet
 constant_state (Arrays t) n = IsSet
 constant_state Unknown n = IsSet
 
--- where a local is true or is false, what is set exactly where it is true is set or is not
+-- What rests on a local is resolved where that is known.
 abbrev pub resolved : ℕ → Bool → InitState → InitState
 resolved f b IsSet = IsSet
 resolved f b IsUnset = IsUnset
 resolved f b (IsKnown c) = IsKnown c
+resolved f b IsEmpty = IsEmpty
+resolved f b (IsEmptyWithout k) = cond (k == f) (cond b IsSet IsEmpty) (IsEmptyWithout k)
 resolved f b IsDoubtful = IsDoubtful
 resolved f b (IsSetWith k) = cond (k == f) (cond b IsSet IsUnset) (IsSetWith k)
+
+-- what rests on one local rests on another that says the same
+abbrev pub retied : (old new : ℕ) → InitState → InitState
+retied n c IsSet = IsSet
+retied n c IsUnset = IsUnset
+retied n c (IsKnown b) = IsKnown b
+retied n c IsEmpty = IsEmpty
+retied n c (IsEmptyWithout k) = IsEmptyWithout (cond (k == n) c k)
+retied n c IsDoubtful = IsDoubtful
+retied n c (IsSetWith k) = IsSetWith k
 
 -- each part of the type stands so
 abbrev pub Each : Table → TyId → InitMap → InitState → Type 0
@@ -222,9 +253,9 @@ module _ (x : Context) where
   abbrev pub IsLive : FlowState → ℕ → Type 0
   IsLive g l = g.status l ≡ Own → Among l (filled_by x.fun.body) → ⊥
 
-  -- no doubtful part is set exactly where the local is true
+  -- the state of no part rests on the local
   abbrev pub IsUntied : FlowState → ℕ → Type 0
-  IsUntied g f = (l : ℕ) (t : TyId) (q : Path) → local_type x.fun l ≡ Some t → IsLeaf x.core.types t q → g.init l q ≢ IsSetWith f
+  IsUntied g f = (l : ℕ) (t : TyId) (q : Path) → local_type x.fun l ≡ Some t → IsLeaf x.core.types t q → IsNotTied f (g.init l q)
 
   -- the map of what stands before the first index
   abbrev pub still_map : FlowState → Place → InitMap
@@ -262,6 +293,7 @@ module _ (x : Context) where
     pub indexes : IndexesOk g p.steps
     pub free : MayWriteAt g p.local (still p.steps)
     pub set : IsSetAt g p
+    pub untied : IsUntied g p.local
 
   pub record StoreOk (g : FlowState) (p : Place) : Type 0 where
     pub live : IsLive g p.local
@@ -309,8 +341,9 @@ module _ (x : Context) where
   abbrev pub IsFlag : ℕ → Type 0
   IsFlag f = (t : TyId) × (local_type x.fun f ≡ Some t) × (form x.core.types t ≡ Flags)
 
+  -- the local is a number or a truth value, and so much is known of it
   abbrev pub Knows : FlowState → ℕ → Bool → Type 0
-  Knows g f b = IsFlag f × (g.init f [] ≡ IsKnown b)
+  Knows g l b = (t : TyId) × (local_type x.fun l ≡ Some t) × (parts_of (form x.core.types t) ≡ []) × (g.init l [] ≡ IsKnown b)
 
   -- A part in the first state may be said to be in the second. What is set becomes doubtful in a checked core only where its local is
   -- known to be true, and what is unset only where that is known to be false.
@@ -318,8 +351,10 @@ module _ (x : Context) where
   Becomes g s IsSet = IsSetSo s
   Becomes g s IsUnset = s ≡ IsUnset
   Becomes g s (IsKnown b) = s ≡ IsKnown b
+  Becomes g s IsEmpty = s ≡ IsEmpty
+  Becomes g s (IsEmptyWithout l) = (s ≡ IsEmptyWithout l) ⊎ ((Knows g l true × IsSetSo s) ⊎ (Knows g l false × (s ≡ IsEmpty)))
   Becomes g s IsDoubtful = (s ≡ IsDoubtful) ⊎ (x.stage ≡ Deinitialises)
-  Becomes g s (IsSetWith f) = (s ≡ IsSetWith f) ⊎ ((Knows g f true × IsSetSo s) ⊎ (Knows g f false × (s ≡ IsUnset)))
+  Becomes g s (IsSetWith f) = (s ≡ IsSetWith f) ⊎ (IsFlag f × ((Knows g f true × IsSetSo s) ⊎ (Knows g f false × (s ≡ IsUnset))))
 
   -- The one flow state leads to the other: what they tell of each local agrees, and what is open in the first is open in the second.
   pub record FlowsInto (g d : FlowState) : Type 0 where
@@ -334,10 +369,64 @@ module _ (x : Context) where
   Stores g None d = ⊥
   Stores g (Some to) d = StoreOk g to × FlowsInto (stored g to) d
 
+  abbrev pub StoresAs : InitMap → FlowState → Option Place → FlowState → Type 0
+  StoresAs c g None d = ⊥
+  StoresAs c g (Some to) d = StoreOk g to × FlowsInto (stored_as c g to (is_exact to.steps)) d
+
+  -- an array that was changed is known to be set
+  abbrev pub changed : FlowState → Place → FlowState
+  changed g p = stored g p
+
   -- all are read, and the result is stored, if there is one
   abbrev pub Computes : FlowState → Option Place → List Place → FlowState → Type 0
   Computes g None from d = all (ReadOk g) from × FlowsInto g d
   Computes g (Some to) from d = all (ReadOk g) from × Stores g (Some to) d
+
+  -- WHAT OPERATIONS TELL of arrays: whether one has no element
+
+  abbrev pub is_whole_local : List Step → Bool
+  is_whole_local [] = true
+  is_whole_local (s ∷ steps) = false
+
+  -- a count that is stored in a local is 0 where the array has no element, and else above 0
+  abbrev pub counted : FlowState → Place → Place → FlowState
+  counted g to array = with_init (with_init g to.local [] all_set) array.local (still array.steps) (λ q. IsEmptyWithout to.local)
+
+  pub record CountOk (g : FlowState) (to array : Place) : Type 0 where
+    pub read : ReadOk g array
+    pub exact : is_exact array.steps ≡ true
+    pub store : StoreOk g to
+    pub whole : is_whole_local to.steps ≡ true
+    pub other : to.local ≢ array.local
+    pub untied : IsUntied g array.local
+
+  -- that 0 is below a number says whether this is 0, where it is 0 or above it
+  abbrev pub compared : FlowState → Place → Place → FlowState
+  compared g to n = with_init (record g { init = λ l q. retied n.local to.local (g.init l q) }) to.local [] all_set
+
+  pub record CompareOk (g : FlowState) (to zero' n : Place) : Type 0 where
+    pub read_zero : ReadOk g zero'
+    pub whole_zero : is_whole_local zero'.steps ≡ true
+    pub known : g.init zero'.local [] ≡ IsKnown false
+    pub read : ReadOk g n
+    pub whole_read : is_whole_local n.steps ≡ true
+    pub store : StoreOk g to
+    pub whole : is_whole_local to.steps ≡ true
+    pub other : to.local ≢ n.local
+    pub other_zero : to.local ≢ zero'.local
+
+  abbrev pub Onto : Option Place → (Place → Type 0) → Type 0
+  Onto None P = ⊥
+  Onto (Some to) P = P to
+
+  -- an array whose elements hold arrays
+  abbrev pub IsNestedAt : TyId → Path → Type 0
+  IsNestedAt t q = (u e : TyId) × (type_at x.core.types (Some t) q ≡ Some u) × (form x.core.types u ≡ Arrays e)
+      × ((r : Path) × IsArrayAt x.core.types e r)
+
+  -- each such array in the place has no element
+  abbrev pub HasNoElements : FlowState → Place → Type 0
+  HasNoElements g p = (t : TyId) → place_type x.core.types x.fun p ≡ Some t → (q : Path) → IsNestedAt t q → still_map g p q ≡ IsEmpty
 
   -- OPENING AND CLOSING
 
@@ -445,10 +534,10 @@ module _ (x : Context) where
 
   -- STAGES
 
-  -- a `Drop` of a checked core gives up what is set
+  -- a `Drop` of a checked core gives up what is set, and no array with elements that hold arrays
   abbrev pub IsDropped : Stage → FlowState → Place → Type 0
   IsDropped Deinitialises g p = Unit {0}
-  IsDropped GivesUp g p = IsSetAt g p
+  IsDropped GivesUp g p = IsSetAt g p × HasNoElements g p
 
   -- a checked core copies no array, and only it frees one
   abbrev pub IsCopied : Stage → Place → Type 0
@@ -488,10 +577,10 @@ module _ (x : Context) where
   Three (a ∷ as') P = Two as' (P a)
 
   abbrev pub TransfersBuilt : Operator → Option Place → List Place → FlowState → FlowState → Type 0
-  TransfersBuilt Push to from g d = Two from (λ array a. TakeOk g a × ChangeOk (given g a) array × FlowsInto (given g a) d)
-  TransfersBuilt Pop to from g d = One from (λ array. ChangeOk g array × Stores g to d)
-  TransfersBuilt Swap to from g d = Three from (λ array a b. ReadOk g a × ReadOk g b × ChangeOk g array × FlowsInto g d)
-  TransfersBuilt FreeArray to from g d = Frees x.stage × One from (λ array. TakeOk g array × FlowsInto (given g array) d)
+  TransfersBuilt Push to from g d = Two from (λ array a. TakeOk g a × ChangeOk (given g a) array × FlowsInto (changed (given g a) array) d)
+  TransfersBuilt Pop to from g d = One from (λ array. ChangeOk g array × Stores (changed g array) to d)
+  TransfersBuilt Swap to from g d = Three from (λ array a b. ReadOk g a × ReadOk g b × ChangeOk g array × FlowsInto (changed g array) d)
+  TransfersBuilt FreeArray to from g d = Frees x.stage × One from (λ array. TakeOk g array × FlowsInto (given g array) d × HasNoElements g array)
   TransfersBuilt Add to from g d = Computes g to from d
   TransfersBuilt Sub to from g d = Computes g to from d
   TransfersBuilt Mul to from g d = Computes g to from d
@@ -500,11 +589,11 @@ module _ (x : Context) where
   TransfersBuilt Neg to from g d = Computes g to from d
   TransfersBuilt (Convert t) to from g d = Computes g to from d
   TransfersBuilt Eq to from g d = Computes g to from d
-  TransfersBuilt Lt to from g d = Computes g to from d
+  TransfersBuilt Lt to from g d = Computes g to from d ⊎ Onto to (λ to. Two from (λ a b. CompareOk g to a b × FlowsInto (compared g to b) d))
   TransfersBuilt Le to from g d = Computes g to from d
   TransfersBuilt Not to from g d = Computes g to from d
-  TransfersBuilt NewArray to from g d = Computes g to from d
-  TransfersBuilt Count to from g d = Computes g to from d
+  TransfersBuilt NewArray to from g d = StoresAs (λ q. IsEmpty) g to d
+  TransfersBuilt Count to from g d = Computes g to from d ⊎ Onto to (λ to. One from (λ a. CountOk g to a × FlowsInto (counted g to a) d))
   TransfersBuilt Print to from g d = Computes g to from d
   TransfersBuilt Read to from g d = Computes g to from d
   TransfersBuilt Check to from g d = Computes g to from d
@@ -522,11 +611,12 @@ module _ (x : Context) where
   Continues NoLoop g = ⊥
   Continues (InLoop after again) g = FlowsInto g again
 
-  -- where g holds before the statements, d holds after them; nothing follows a `Break`, `Continue` or `Leave`
+  -- Where g holds before the statements, d holds after them; before each statement less may be told. Nothing follows a `Break`,
+  -- `Continue` or `Leave`.
   abbrev mutual
     pub TransfersAll : Around → FlowState → Stmts → FlowState → Type 0
     TransfersAll a g Done d = FlowsInto g d
-    TransfersAll a g (Then s ss) d = (h : FlowState) × Transfers a g s h × TransfersAll a h ss d
+    TransfersAll a g (Then s ss) d = (k h : FlowState) × FlowsInto g k × Transfers a k s h × TransfersAll a h ss d
 
     pub Transfers : Around → FlowState → Stmt → FlowState → Type 0
     Transfers a g (Built operator to from spans) d = TransfersBuilt operator to from g d

@@ -10,10 +10,12 @@ use Rattle.hy_core.specs.Control.{Form, Numbers, Flags, Tuples, Products, Arrays
 use Rattle.hy_core.specs.Statements.{way}
 use Rattle.hy_core.specs.Typing.{place_type, still, still_type}
 use Rattle.hy_core.specs.Shaped.{filled_by}
-use Rattle.hy_core.specs.Flow.{InitState, IsSet, IsUnset, IsKnown, IsDoubtful, IsSetWith, InitMap, all_set}
-use Rattle.hy_core.specs.Flow.{none_set, Holder, InLocal, InSubscript, OpenPlace, Loan, Status, Own, Param}
+use Rattle.hy_core.specs.Flow.{InitState, IsSet, IsUnset, IsKnown, IsEmpty, IsEmptyWithout, IsDoubtful, IsSetWith, InitMap}
+use Rattle.hy_core.specs.Flow.{all_set, none_set, Holder, InLocal, InSubscript, OpenPlace, Loan, Status, Own, Param}
 use Rattle.hy_core.specs.Flow.{Opened, Bound, FlowState, Terms, Signature, Context, with_status, way_of, is_exact, still_map, given, stored, opened}
-use Rattle.hy_core.specs.Flow.{come_back, come_from, held_by, all_given, first, context_of, signatures_of, set_to, where_is, form_or_unknown, with_init}
+use Rattle.hy_core.specs.Flow.{come_back, come_from, held_by, all_given, first, context_of, signatures_of}
+use Rattle.hy_core.specs.Flow.{set_to, where_is, form_or_unknown, with_init, stored_as, changed}
+use Rattle.hy_core.specs.Flow.{is_whole_local, counted, compared}
 
 -- TESTS
 
@@ -54,6 +56,8 @@ abbrev pub is_set_so : InitState → Bool
 is_set_so IsSet = true
 is_set_so IsUnset = false
 is_set_so (IsKnown b) = true
+is_set_so IsEmpty = true
+is_set_so (IsEmptyWithout l) = true
 is_set_so IsDoubtful = false
 is_set_so (IsSetWith f) = false
 
@@ -61,6 +65,8 @@ abbrev pub is_unset : InitState → Bool
 is_unset IsSet = false
 is_unset IsUnset = true
 is_unset (IsKnown b) = false
+is_unset IsEmpty = false
+is_unset (IsEmptyWithout l) = false
 is_unset IsDoubtful = false
 is_unset (IsSetWith f) = false
 
@@ -68,6 +74,8 @@ abbrev pub is_known : Bool → InitState → Bool
 is_known b IsSet = false
 is_known b IsUnset = false
 is_known b (IsKnown c) = bool_eq c b
+is_known b IsEmpty = false
+is_known b (IsEmptyWithout l) = false
 is_known b IsDoubtful = false
 is_known b (IsSetWith f) = false
 
@@ -75,6 +83,8 @@ abbrev pub is_doubtful : InitState → Bool
 is_doubtful IsSet = false
 is_doubtful IsUnset = false
 is_doubtful (IsKnown b) = false
+is_doubtful IsEmpty = false
+is_doubtful (IsEmptyWithout l) = false
 is_doubtful IsDoubtful = true
 is_doubtful (IsSetWith f) = false
 
@@ -82,14 +92,40 @@ abbrev pub is_set_with : ℕ → InitState → Bool
 is_set_with f IsSet = false
 is_set_with f IsUnset = false
 is_set_with f (IsKnown b) = false
+is_set_with f IsEmpty = false
+is_set_with f (IsEmptyWithout l) = false
 is_set_with f IsDoubtful = false
 is_set_with f (IsSetWith k) = k == f
+
+abbrev pub is_empty : InitState → Bool
+is_empty IsSet = false
+is_empty IsUnset = false
+is_empty (IsKnown b) = false
+is_empty IsEmpty = true
+is_empty (IsEmptyWithout l) = false
+is_empty IsDoubtful = false
+is_empty (IsSetWith f) = false
+
+abbrev pub is_empty_without : ℕ → InitState → Bool
+is_empty_without l IsSet = false
+is_empty_without l IsUnset = false
+is_empty_without l (IsKnown b) = false
+is_empty_without l IsEmpty = false
+is_empty_without l (IsEmptyWithout k) = k == l
+is_empty_without l IsDoubtful = false
+is_empty_without l (IsSetWith f) = false
+
+-- the state does not rest on the local
+abbrev pub is_not_tied : ℕ → InitState → Bool
+is_not_tied l s = not (is_empty_without l s) && not (is_set_with l s)
 
 -- what counts as the state that is wanted
 abbrev pub counts : (wanted : InitState) → InitState → Bool
 counts IsSet s = is_set_so s
 counts IsUnset s = is_unset s
 counts (IsKnown b) s = is_known b s
+counts IsEmpty s = is_empty s
+counts (IsEmptyWithout l) s = false
 counts IsDoubtful s = false
 counts (IsSetWith f) s = false
 
@@ -136,6 +172,15 @@ is_open Own w = false
 is_open (Param v) w = way_eq v w
 is_open (Opened o) w = way_eq o.way w
 is_open (Bound v) w = way_eq v w
+
+-- and here it is wanted that it is there
+abbrev pub there_and : {A : Type 0} → Option A → (A → Bool) → Bool
+there_and None f = false
+there_and (Some a) f = f a
+
+abbrev pub has_no_parts : List TyId → Bool
+has_no_parts [] = true
+has_no_parts (t ∷ ts) = false
 
 abbrev pub in_local : Holder → Bool
 in_local (InLocal l) = true
@@ -274,10 +319,10 @@ module _ (x : Context) where
   abbrev pub local_is : FlowState → ℕ → InitState → Bool
   local_is g l s = if_some (local_type x.fun l) (λ t. each_is types t (g.init l) s)
 
-  -- no doubtful part is set exactly where the local is true
+  -- the state of no part rests on the local
   abbrev pub untied : FlowState → ℕ → Bool
   untied g f =
-      each_local locals (λ l. if_some (local_type x.fun l) (λ t. every_leaf types (depth_of types) t (λ a q. not (is_set_with f (g.init l q)))))
+      each_local locals (λ l. if_some (local_type x.fun l) (λ t. every_leaf types (depth_of types) t (λ a q. is_not_tied f (g.init l q))))
 
   abbrev pub entered : FlowState → Place → Bool
   entered g p = is_exact p.steps || set_place g p
@@ -290,7 +335,7 @@ module _ (x : Context) where
   read_ok g p = is_live g p.local && (indexes_ok g p.steps && (may_read g p.local (still p.steps) && set_place g p))
 
   abbrev pub change_ok : FlowState → Place → Bool
-  change_ok g p = is_live g p.local && (indexes_ok g p.steps && (may_write g p.local (still p.steps) && set_place g p))
+  change_ok g p = is_live g p.local && (indexes_ok g p.steps && (may_write g p.local (still p.steps) && (set_place g p && untied g p.local)))
 
   abbrev pub store_ok : FlowState → Place → Bool
   store_ok g p = is_live g p.local && (indexes_ok g p.steps && (may_write g p.local (still p.steps)
@@ -308,15 +353,17 @@ module _ (x : Context) where
   is_flag f = is_flags (form_or_unknown x (local_type x.fun f))
 
   abbrev pub knows : FlowState → ℕ → Bool → Bool
-  knows g f b = is_flag f && is_known b (g.init f [])
+  knows g l b = there_and (local_type x.fun l) (λ t. has_no_parts (parts_of (form types t))) && is_known b (g.init l [])
 
   -- a part in the first state may be said to be in the second
   abbrev pub becomes : FlowState → InitState → InitState → Bool
   becomes g s IsSet = is_set_so s
   becomes g s IsUnset = is_unset s
   becomes g s (IsKnown b) = is_known b s
+  becomes g s IsEmpty = is_empty s
+  becomes g s (IsEmptyWithout l) = is_empty_without l s || (knows g l true && is_set_so s || knows g l false && is_empty s)
   becomes g s IsDoubtful = is_doubtful s || is_core x.stage
-  becomes g s (IsSetWith f) = is_set_with f s || (knows g f true && is_set_so s || knows g f false && is_unset s)
+  becomes g s (IsSetWith f) = is_set_with f s || is_flag f && (knows g f true && is_set_so s || knows g f false && is_unset s)
 
   -- what they say of each local agrees, and what is open in the first is open in the second
   abbrev pub flows_into : FlowState → FlowState → Bool
@@ -366,6 +413,50 @@ module _ (x : Context) where
   abbrev pub computes : FlowState → Option Place → List Place → Option Exits
   computes g None from = when (every (read_ok g) from) g
   computes g (Some to) from = if every (read_ok g) from then stores g (Some to) else None
+
+  abbrev pub stores_as : InitMap → FlowState → Option Place → Option Exits
+  stores_as c g None = None
+  stores_as c g (Some to) = when (store_ok g to) (stored_as x c g to (is_exact to.steps))
+
+  abbrev pub count_ok : FlowState → Place → Place → Bool
+  count_ok g to array =
+      read_ok g array && (is_exact array.steps && (store_ok g to && (is_whole_local x to.steps && (not (to.local == array.local)
+      && (untied g array.local && not (is_empty (still_map x g array [])))))))
+
+  abbrev pub compare_ok : (g : FlowState) → (to zero' n : Place) → Bool
+  compare_ok g to z n =
+      read_ok g z && (is_whole_local x z.steps && (is_known false (g.init z.local []) && (read_ok g n && (is_whole_local x n.steps
+      && (store_ok g to && (is_whole_local x to.steps && (not (to.local == n.local) && not (to.local == z.local))))))))
+
+  -- where what is stored tells whether an array has an element
+  abbrev pub counts_to : FlowState → Option Place → List Place → Option Exits
+  counts_to g None from = computes g None from
+  counts_to g (Some to) [] = computes g (Some to) []
+  counts_to g (Some to) (array ∷ from) =
+      if count_ok g to array then Some (goes_to (counted x g to array)) else computes g (Some to) (array ∷ from)
+
+  abbrev pub compares_to : FlowState → Option Place → List Place → Option Exits
+  compares_to g None from = computes g None from
+  compares_to g (Some to) [] = computes g (Some to) []
+  compares_to g (Some to) (a ∷ []) = computes g (Some to) (a ∷ [])
+  compares_to g (Some to) (a ∷ (b ∷ from)) =
+      if compare_ok g to a b then Some (goes_to (compared x g to b)) else computes g (Some to) (a ∷ (b ∷ from))
+
+  -- each array in the place whose elements hold arrays has no element
+  abbrev pub has_array : TyId → Bool
+  has_array t = not (each_array types t (λ q. false))
+
+  abbrev pub is_nested : Form → Bool
+  is_nested (Numbers t) = false
+  is_nested Flags = false
+  is_nested (Tuples parts) = false
+  is_nested (Products d parts) = false
+  is_nested (Arrays t) = has_array t
+  is_nested Unknown = false
+
+  abbrev pub no_elements : FlowState → Place → Bool
+  no_elements g p =
+      if_some (place_type types x.fun p) (λ t. every_leaf types (depth_of types) t (λ a q. not (is_nested a) || is_empty (still_map x g p q)))
 
   abbrev pub is_free : FlowState → ℕ → Bool
   is_free g to = is_own (g.status to) && (local_is g to IsUnset && (is_shut g to && (nat_lt to locals && untied g to)))
@@ -429,7 +520,7 @@ module _ (x : Context) where
 
   abbrev pub dropped : Stage → FlowState → Place → Bool
   dropped Deinitialises g p = true
-  dropped GivesUp g p = set_place g p
+  dropped GivesUp g p = set_place g p && no_elements g p
 
   abbrev pub copied : Stage → Place → Bool
   copied Deinitialises p = true
@@ -448,16 +539,16 @@ module _ (x : Context) where
       else is_own (g.status l) && left x.stage g l))
 
   abbrev pub built_flow : Operator → Option Place → List Place → FlowState → Option Exits
-  built_flow Push to (array ∷ (a ∷ from)) g = when (take_ok g a && change_ok (given x g a) array) (given x g a)
+  built_flow Push to (array ∷ (a ∷ from)) g = when (take_ok g a && change_ok (given x g a) array) (changed x (given x g a) array)
   built_flow Push to (array ∷ []) g = None
   built_flow Push to [] g = None
-  built_flow Pop to (array ∷ from) g = if change_ok g array then stores g to else None
+  built_flow Pop to (array ∷ from) g = if change_ok g array then stores (changed x g array) to else None
   built_flow Pop to [] g = None
-  built_flow Swap to (array ∷ (a ∷ (b ∷ from))) g = when (read_ok g a && (read_ok g b && change_ok g array)) g
+  built_flow Swap to (array ∷ (a ∷ (b ∷ from))) g = when (read_ok g a && (read_ok g b && change_ok g array)) (changed x g array)
   built_flow Swap to (array ∷ (a ∷ [])) g = None
   built_flow Swap to (array ∷ []) g = None
   built_flow Swap to [] g = None
-  built_flow FreeArray to (array ∷ from) g = when (frees x.stage && take_ok g array) (given x g array)
+  built_flow FreeArray to (array ∷ from) g = when (frees x.stage && (take_ok g array && no_elements g array)) (given x g array)
   built_flow FreeArray to [] g = None
   built_flow Add to from g = computes g to from
   built_flow Sub to from g = computes g to from
@@ -467,11 +558,11 @@ module _ (x : Context) where
   built_flow Neg to from g = computes g to from
   built_flow (Convert t) to from g = computes g to from
   built_flow Eq to from g = computes g to from
-  built_flow Lt to from g = computes g to from
+  built_flow Lt to from g = compares_to g to from
   built_flow Le to from g = computes g to from
   built_flow Not to from g = computes g to from
-  built_flow NewArray to from g = computes g to from
-  built_flow Count to from g = computes g to from
+  built_flow NewArray to from g = stores_as (λ q. IsEmpty) g to
+  built_flow Count to from g = counts_to g to from
   built_flow Print to from g = computes g to from
   built_flow Read to from g = computes g to from
   built_flow Check to from g = computes g to from
@@ -515,10 +606,25 @@ module _ (x : Context) where
   or_from None g None go = None
   or_from None g (Some d) go = let h : FlowState = record g { init = d.init } in if flows_into g h then go h else None
 
+  -- no array is known to have no element where a local is false or 0
+  abbrev pub without_ties : InitState → InitState
+  without_ties IsSet = IsSet
+  without_ties IsUnset = IsUnset
+  without_ties (IsKnown b) = IsKnown b
+  without_ties IsEmpty = IsEmpty
+  without_ties (IsEmptyWithout l) = IsSet
+  without_ties IsDoubtful = IsDoubtful
+  without_ties (IsSetWith f) = IsSetWith f
+
+  -- a statement that is not allowed as it is, where less is told
+  abbrev pub tried : Option Exits → FlowState → (FlowState → Option Exits) → Option Exits
+  tried (Some e) g go = Some e
+  tried None g go = go (record g { init = λ l q. without_ties (g.init l q) })
+
   abbrev mutual
     pub flow_all : Stmts → FlowState → Option Exits
     flow_all Done g = Some (goes_to g)
-    flow_all (Then s ss) g = and_then (flow_one s g) (λ e. follows e.next e ss (flow_all ss))
+    flow_all (Then s ss) g = and_then (tried (flow_one s g) g (flow_one s)) (λ e. follows e.next e ss (flow_all ss))
 
     pub flow_one : Stmt → FlowState → Option Exits
     flow_one (Built operator to from spans) g = built_flow operator to from g

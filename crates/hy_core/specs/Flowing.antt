@@ -1,10 +1,12 @@
 -- Which small cores have a flow: all that are calm, and none of those that are not.
-use Rattle.std.specs.Prelude.{◌≡◌, Bool, true, false, List, [], ◌∷◌, ◌++◌, ℤ, pos}
-use Rattle.hy_core.specs.Plain.{Add, Sub, Mul, Div, Rem, NewArray, Done, Stmt, Set, Lend, Close, Move, Copy, Drop, Call, Project, Slide, Yield, If, While}
+use Rattle.std.specs.Prelude.{None, ◌≡◌, Bool, true, false, List, [], ◌∷◌, ◌++◌, ℤ, pos}
+use Rattle.hy_core.specs.Plain.{Add, Sub, Mul, Div, Rem, Lt, Pop, Swap, Count, FreeArray, Built, NewArray, Done, Stmt}
+use Rattle.hy_core.specs.Plain.{Set, Lend, Close, Move, Copy, Drop, Call, Project, Slide, Yield, If, While}
 use Rattle.hy_core.specs.Plain.{Writes, Fun, Core}
 use Rattle.hy_core.specs.Control.{Stage, Deinitialises, GivesUp}
 use Rattle.hy_core.specs.FlowOf.{has_flow}
-use Rattle.hy_core.specs.Notation.{of, item, push, stmts, print, tell, int, inout_of, set_of, unit, number, truth, numbers, numbers_for, fun, ramp, main, core}
+use Rattle.hy_core.specs.Notation.{of, item, push, stmts, print, compute, tell, int, inout_of, set_of, unit}
+use Rattle.hy_core.specs.Notation.{number, truth, numbers, rows, numbers_for, fun, ramp, main, core}
 use Rattle.hy_core.specs.Examples as calm
 use Rattle.hy_core.specs.Examples.{leave}
 use Rattle.hy_core.specs.Differences as wild
@@ -223,6 +225,70 @@ doubtful_left = alone (Set (of 9) (pos 1) ∷ If 9 (stmts (tell NewArray 7 [] �
 abbrev pub set_in_passes : Core
 set_in_passes = alone (Set (of 9) (pos 1) ∷ While Done 9 (stmts (tell NewArray 7 [] ∷ Drop (of 7) ∷ If 9 (stmts (Drop (of 8) ∷ tell NewArray 8 [] ∷ [])) Done
     ∷ Set (of 9) (pos 0) ∷ [])) ∷ Drop (of 8) ∷ Drop (of 9) ∷ leave 0)
+
+-- ARRAYS OF ARRAYS: local 8 is one, 7 an array of numbers, 1 to 6 are numbers, 9 is a truth value
+
+abbrev pub with_rows : List Stmt → Core
+with_rows ss = core (main (unit ∷ numbers_for 6 (numbers ∷ rows ∷ truth ∷ [])) (tell NewArray 8 [] ∷ int 1 0 ∷ (ss ++ Drop (of 1) ∷ leave 0)) ∷ [])
+
+-- two rows, of which one has an element
+abbrev pub two_rows : List Stmt
+two_rows = tell NewArray 7 [] ∷ int 2 5 ∷ push 7 2 ∷ push 8 7 ∷ tell NewArray 7 [] ∷ push 8 7 ∷ []
+
+-- while 0 < count, the last row is taken out and freed
+abbrev pub rows_freed : List Stmt
+rows_freed = While (stmts (tell Count 2 (of 8 ∷ []) ∷ tell Lt 9 (of 1 ∷ of 2 ∷ []) ∷ Drop (of 2) ∷ [])) 9
+    (stmts (Drop (of 9) ∷ compute Pop 7 (of 8 ∷ []) ∷ Built FreeArray None (of 7 ∷ []) [] ∷ [])) ∷ Drop (of 9) ∷ []
+
+-- the rows in turn: each is swapped with the last one, which is taken out
+abbrev pub rows_swapped_out : List Stmt
+rows_swapped_out = While (stmts (tell Count 2 (of 8 ∷ []) ∷ tell Lt 9 (of 1 ∷ of 2 ∷ []) ∷ [])) 9
+    (stmts (int 3 1 ∷ compute Sub 2 (of 2 ∷ of 3 ∷ []) ∷ Built Swap None (of 8 ∷ of 1 ∷ of 2 ∷ []) (0 ∷ 0 ∷ []) ∷ compute Pop 7 (of 8 ∷ [])
+    ∷ Built FreeArray None (of 7 ∷ []) [] ∷ Drop (of 3) ∷ Drop (of 2) ∷ Drop (of 9) ∷ [])) ∷ Drop (of 9) ∷ Drop (of 2) ∷ []
+
+abbrev pub freed_with_rows : Core
+freed_with_rows = with_rows (two_rows ++ Built FreeArray None (of 8 ∷ []) [] ∷ [])
+
+abbrev pub dropped_with_rows : Core
+dropped_with_rows = with_rows (two_rows ++ Drop (of 8) ∷ [])
+
+abbrev pub freed_without_rows : Core
+freed_without_rows = with_rows (two_rows ++ (rows_freed ++ Built FreeArray None (of 8 ∷ []) [] ∷ []))
+
+abbrev pub dropped_without_rows : Core
+dropped_without_rows = with_rows (two_rows ++ (rows_swapped_out ++ Drop (of 8) ∷ []))
+
+-- one is pushed after the loop
+abbrev pub freed_with_one : Core
+freed_with_one = with_rows (two_rows ++ (rows_freed ++ tell NewArray 7 [] ∷ push 8 7 ∷ Built FreeArray None (of 8 ∷ []) [] ∷ []))
+
+-- one that never had a row; and a count that is only printed
+abbrev pub freed_at_once : Core
+freed_at_once = with_rows (tell Count 2 (of 8 ∷ []) ∷ print (of 2) ∷ Drop (of 2) ∷ Built FreeArray None (of 8 ∷ []) [] ∷ [])
+
+abbrev pub only_counted : Core
+only_counted = with_rows (two_rows ++ (tell Count 2 (of 8 ∷ []) ∷ print (of 2) ∷ Drop (of 2) ∷ (rows_freed ++ Drop (of 8) ∷ [])))
+
+-- where the count is 0 it is freed, and else
+abbrev pub freed_where_none : Core
+freed_where_none = with_rows (tell Count 2 (of 8 ∷ []) ∷ tell Lt 9 (of 1 ∷ of 2 ∷ []) ∷ Drop (of 2)
+    ∷ If 9 (stmts (Drop (of 9) ∷ (rows_freed ++ Built FreeArray None (of 8 ∷ []) [] ∷ [])))
+    (stmts (Drop (of 9) ∷ Built FreeArray None (of 8 ∷ []) [] ∷ [])) ∷ [])
+
+abbrev pub freed_where_some : Core
+freed_where_some = with_rows (two_rows ++ (tell Count 2 (of 8 ∷ []) ∷ tell Lt 9 (of 1 ∷ of 2 ∷ []) ∷ Drop (of 2)
+    ∷ If 9 (stmts (Drop (of 9) ∷ Built FreeArray None (of 8 ∷ []) [] ∷ [])) (stmts (Drop (of 9) ∷ Built FreeArray None (of 8 ∷ []) [] ∷ [])) ∷ []))
+
+pub record RowsFlow : Type 0 where
+  pub with_rows : FlowsNot freed_with_rows
+  pub dropped_with_rows : FlowsNot dropped_with_rows
+  pub without : Flows GivesUp freed_without_rows
+  pub swapped_out : Flows GivesUp dropped_without_rows
+  pub with_one : FlowsNot freed_with_one
+  pub at_once : Flows GivesUp freed_at_once
+  pub counted : Flows GivesUp only_counted
+  pub where_none : Flows GivesUp freed_where_none
+  pub where_some : FlowsNot freed_where_some
 
 pub record DoubtfulFlow : Type 0 where
   pub read : NoFlow Deinitialises read_doubtful

@@ -2,7 +2,7 @@
 
 ghost use Rattle.hy_core.specs.Differences.{Differences};
 ghost use Rattle.hy_core.specs.Examples.{Examples, trap_in_slide};
-ghost use Rattle.hy_core.specs.Flowing.{CalmFlow, DoubtfulFlow, FlawedFlow, MendedFlow, WildFlow};
+ghost use Rattle.hy_core.specs.Flowing.{CalmFlow, DoubtfulFlow, FlawedFlow, MendedFlow, RowsFlow, WildFlow};
 ghost use Rattle.hy_core.specs.Meaning.{CopyingAndLendingAgree, EveryRunEnds, MeaningsAgree, OneMeaning};
 ghost use Rattle.hy_core.specs.Ready.{Ready};
 
@@ -45,4 +45,5 @@ pub fn flow_examples()
     ensures flawed { FlawedFlow }
     ensures mended { MendedFlow }
     ensures doubtful { DoubtfulFlow }
+    ensures rows { RowsFlow }
 {}

@@ -1,5 +1,18 @@
-use Rattle.std.proofs.Common.{refl}
+use Rattle.std.proofs.Common.{refl, zero, suc}
+use Rattle.std.specs.Prelude.{ℤ, pos, negsuc}
+use Rattle.hy_core.specs.Flowing.{Operates}
 use Rattle.hy_core.proofs.laws.flow_examples.Goals as goal
+
+operates : (a b : ℤ) → Operates a b
+operates (pos zero) (pos zero) = (refl, refl, refl, refl, refl)
+operates (pos zero) (pos (suc m)) = (refl, refl, refl, refl, refl)
+operates (pos zero) (negsuc m) = (refl, refl, refl, refl, refl)
+operates (pos (suc n)) (pos zero) = (refl, refl, refl, refl, refl)
+operates (pos (suc n)) (pos (suc m)) = (refl, refl, refl, refl, refl)
+operates (pos (suc n)) (negsuc m) = (refl, refl, refl, refl, refl)
+operates (negsuc n) (pos zero) = (refl, refl, refl, refl, refl)
+operates (negsuc n) (pos (suc m)) = (refl, refl, refl, refl, refl)
+operates (negsuc n) (negsuc m) = (refl, refl, refl, refl, refl)
 
 pub returns-clause-calm : goal.returns-clause-calm
 returns-clause-calm c = record {
@@ -30,7 +43,7 @@ returns-clause-calm c = record {
       refl;
   index = refl;
   array = refl;
-  operations = λ a b. (refl, refl, refl, refl, refl);
+  operations = operates;
   precondition = refl;
 }
 
@@ -97,4 +110,17 @@ returns-clause-doubtful c = record {
   left = refl;
   passes = refl;
   branch = refl;
+}
+
+pub returns-clause-rows : goal.returns-clause-rows
+returns-clause-rows c = record {
+  with_rows = refl;
+  dropped_with_rows = refl;
+  without = refl;
+  swapped_out = refl;
+  with_one = refl;
+  at_once = refl;
+  counted = refl;
+  where_none = refl;
+  where_some = refl;
 }
