@@ -188,7 +188,7 @@ module _ (p : Setting) (signatures : ℕ → Signature) (c : Control) (slots : S
   -- LEAVING
 
   pub leave_good : (from : Place) → TakeOk x g from → IsLast x (given x g from) → GoodAt TS (does p c (Leave from)) slots
-  leave_good from ok last = good_take p TS slots g c.now.id now_view (Like c) (like_count c) (like_id c) from _ ok.give.exact ok.give.free
+  leave_good from ok last = good_take p TS slots g c.now.id now_view (Like c) (like_count c) (like_id c) effect.Moved from _ ok.give.exact ok.give.free
       (λ e v l. subst
       (λ e. GoodAt TS
       (Perform (effect.Quit e.now.id (length (lent_types c.now.fun))) (close_all e (length (lent_types c.now.fun)) (back p e e.callers v e.now.dest)))

@@ -247,7 +247,7 @@ module _ (p : Setting) (signatures : ℕ → Signature) (signs : (n : ℕ) → s
   clears_good : (s : Spot) (t : Interaction Control) (vals : Key → Val) → Sound (mem slots vals) → SpotFree c.now.id g s → GoodAt TS t slots
       → (b : Bool) → is_blank (get s.path (vals s.key)) ≡ b → Good TS (clears s b t) (mem slots vals)
   clears_good s t vals sound free next true e = next vals sound
-  clears_good s t vals sound free next false e = good_tell p TS (effect.Clear s) t (mem slots vals) sound
+  clears_good s t vals sound free next false e = good_tell p TS (effect.Clear s effect.Deinitialised) t (mem slots vals) sound
       (spot_write s vals free (there_set s.path (vals s.key) (set_blank _ e))) (λ sound. next _ sound)
 
   pub tasks_good : (w : Work) (ts : List Task) → all (TaskOn (SpotFree c.now.id g)) ts → After w → GoodAt TS (does_tasks p c w ts) slots

@@ -169,7 +169,7 @@ module _ (p : Setting) (signatures : ℕ → Signature) (c : Control) (slots : S
     module _ (d : FlowState) (l : Passes g d) where
       pub takes : (q : Place) (go : Control → Val → Interaction Control) → TakeOk x d q → ((v : Val) → Always (λ e. go e v)) → Always (λ e. take p e q go)
       takes q go ok next e k =
-          good_take p TS slots d c.now.id (V d l) (Like c) (like_count c) (like_id c) q go ok.give.exact ok.give.free (λ e v k. next v e k) e k
+          good_take p TS slots d c.now.id (V d l) (Like c) (like_count c) (like_id c) effect.Moved q go ok.give.exact ok.give.free (λ e v k. next v e k) e k
 
       pub values : (q : Place) (go : Control → Val → Interaction Control) → ReadOk x d q → ((v : Val) → Always (λ e. go e v)) → Always (λ e. read p e q go)
       values q go ok next e k = good_read p TS slots d c.now.id (V d l) (Like c) (like_count c) (like_id c) q go ok.indexes ok.free (λ e v k. next v e k) e k
@@ -337,11 +337,11 @@ module _ (p : Setting) (signatures : ℕ → Signature) (c : Control) (slots : S
 
     freeing : (from : List Place) (d : FlowState) → transfer.One x from (λ array. TakeOk x g array
         × FlowsInto x (given x g array) d × HasNoElements x g array) → Left d
-        → Always (λ e. with_one e from (λ array. read_array p e array (λ e at vs. Perform (effect.Clear at) (Return e))))
+        → Always (λ e. with_one e from (λ array. read_array p e array (λ e at vs. Perform (effect.Clear at effect.Discarded) (Return e))))
     freeing [] d t w e k = absurd t
     freeing (array ∷ (b ∷ more)) d t w e k = λ vals s. over Stuck refl (λ e. absurd (cc))
     freeing (array ∷ []) d t w e k = arrays g (passes_self g) array _ (exact_indexes g array.steps t.0.give.exact) t.0.give.free (λ at vs e vals k y may.
-        good_tell p TS (effect.Clear at) (Return e) (mem slots vals) y may
+        good_tell p TS (effect.Clear at effect.Discarded) (Return e) (mem slots vals) y may
         (λ y. fine d (passes_on g (given x g array) d (given_pass x g array) (flows_pass x _ d t.1)) w e k _ y)) e k
 
     making : (to : Option Place) (d : FlowState) → transfer.StoresAs x (λ q. IsEmpty) g to d → Left d → (v : Val) → Always (λ e. store_to p e to v)

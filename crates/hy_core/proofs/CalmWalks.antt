@@ -18,9 +18,9 @@ use Rattle.hy_core.specs.Runs.{Effect, Store, Change, Clear, Lend, Hand, Close, 
 use Rattle.hy_core.specs.Calm.{MayInspect, MayRead, MayWrite, MayLend, MayHand, MayClose, May, IsCalm}
 use Rattle.hy_core.specs.Operators.{index_in, blanks}
 use Rattle.hy_core.specs.Control.{Form, Numbers, Flags, Tuples, Products, Arrays, Unknown, form, part_type, element_type, blank_of, local_type, Halt, Ends}
-use Rattle.hy_core.specs.Control.{Stuck, NotSet, NotOpened, Control, Setting, stop, key, count_one, with_some, trapped, turn, with_number, with_flag}
+use Rattle.hy_core.specs.Control.{Stuck, NotSet, NotOpened, Control, Setting, stop, key, count_one, with_some, trapped, turn, with_number, with_flag, take_as}
 use Rattle.hy_core.specs.Control.{with_array, with_set, with_index, Aim, ToRead, ToWrite, ToDrop, at_part}
-use Rattle.hy_core.specs.Control.{at_element, walk, spot, read, take, write, read_number}
+use Rattle.hy_core.specs.Control.{at_element, walk, spot, read, write, read_number}
 use Rattle.hy_core.specs.Control.{read_flag, read_array}
 use Rattle.hy_core.specs.Typing.{Among, still}
 use Rattle.hy_core.specs.Flow.{Holder, OpenPlace, Status, Own, Param, Opened, Bound, FlowState, way_of, IsInLocal, is_exact, IsShutAt, MayReadAt}
@@ -47,7 +47,7 @@ pub data Fine (S : Control → Slots → Type 0) (c : Control) (slots : Slots) :
 abbrev pub Allowed : Effect → Copies → Type 0
 Allowed (Store s v) m = MayWrite m s
 Allowed (Change s v) m = MayWrite m s
-Allowed (Clear s) m = MayWrite m s
+Allowed (Clear s fate) m = MayWrite m s
 Allowed (Lend k s way) m = MayLend m k s way
 Allowed (Hand k l) m = MayHand m k l
 Allowed (Close k) m = MayClose m k
@@ -56,7 +56,7 @@ Allowed (Quit a n) m = (k : Key) (o : Origin) → m.opened k ≡ Some o → o.ba
 may_of : (o : Effect) (m : Copies) → Allowed o m → May o m
 may_of (Store s v) m may = may
 may_of (Change s v) m may = may
-may_of (Clear s) m may = may
+may_of (Clear s fate) m may = may
 may_of (Lend k s way) m may = may
 may_of (Hand k l) m may = may
 may_of (Close k) m may = may
@@ -485,13 +485,13 @@ module _ (p : Setting) (S : Control → Slots → Type 0) where
     good_read place go idx may next = good_spot Reads place _ idx may (λ c vals u t x s b there.
         let v = get u (vals (at id place.local)) in (may_read vals place.local _ u may b, good_set c v (go c v) (mem slots vals) (next c v x vals s)))
 
-    pub good_take : (place : Place) (go : Control → Val → Interaction Control) → is_exact place.steps ≡ true → MayWriteAt g place.local (still place.steps)
-        → Reads_on go → (c : Control) → Q c → GoodAt S (take p c place go) slots
-    good_take place go exact may next = good_spot Reads place _ (exact_indexes g place.steps exact) (read_at g place.local _ may) (λ c vals u t x s b there.
-        let v = get u (vals (at id place.local)) in (
+    pub good_take : (fate : effect.Fate) (place : Place) (go : Control → Val → Interaction Control) → is_exact place.steps ≡ true
+        → MayWriteAt g place.local (still place.steps) → Reads_on go → (c : Control) → Q c → GoodAt S (take_as fate p c place go) slots
+    good_take fate place go exact may next = good_spot Reads place _ (exact_indexes g place.steps exact) (read_at g place.local _ may)
+        (λ c vals u t x s b there. let v = get u (vals (at id place.local)) in (
           may_read vals place.local _ u (read_at g place.local _ may) b,
-          good_set c v (Perform (effect.Clear (record { key = at id place.local; path = u })) (go c v)) (mem slots vals)
-              (good_tell (effect.Clear (record { key = at id place.local; path = u })) (go c v) (mem slots vals) s
+          good_set c v (Perform (effect.Clear (record { key = at id place.local; path = u }) fate) (go c v)) (mem slots vals)
+              (good_tell (effect.Clear (record { key = at id place.local; path = u }) fate) (go c v) (mem slots vals) s
               (may_write vals place.local _ u may b there) (λ s. next c v x _ s)),
         ))
 

@@ -22,7 +22,7 @@ use Rattle.hy_core.specs.Control.{Form, form, part_type, element_type, blank_of,
 use Rattle.hy_core.specs.Control.{Work, Idle, Rest, Loop, Test, Drops, Dest, Opens, Nowhere, Activation, Nap, Halt, Ends, Stuck, NotSet, NotOpened, Control}
 use Rattle.hy_core.specs.Control.{Stage, Deinitialises, GivesUp, Setting, stop, with_work, key, count_one, with_some, trapped, turn, with_number, with_flag}
 use Rattle.hy_core.specs.Control.{with_array, with_set, with_index, Aim, ToRead, ToWrite, ToDrop, at_unset, at_part, at_element, walk, spot, read, take}
-use Rattle.hy_core.specs.Control.{write, read_number, read_flag, read_array, sleeper_of, wake}
+use Rattle.hy_core.specs.Control.{write, read_number, read_flag, read_array, sleeper_of, wake, take_as}
 use Rattle.hy_core.specs.Control as control
 use Rattle.hy_core.specs.Statements.{changes_one, with_none, with_one, with_two, with_three, store_to, give, arithmetic, compares, pop, swap, reads, built}
 use Rattle.hy_core.specs.Statements.{constant, Charge, Paid, Unpaid, and_pay, pay_turn, charge, charge_parts, charge_elements, charged, hand_all, move_all}
@@ -272,9 +272,9 @@ module _ (n u : ℕ) (p : Setting) where
       → Has 1 c → ((c : Control) → Has 1 c → (v : Val) → FallsBy n u (go c v)) → FallsBy n u (read p c x go)
   f_read c x go h next = f_spot ToRead c x _ h (λ c h s t. λ v. f_if (is_whole v) c NotSet (go c v) (next c h v))
 
-  f_take : (c : Control) (x : Place) (go : Control → Val → Interaction Control)
-      → Has 1 c → ((c : Control) → Has 1 c → (v : Val) → FallsBy n u (go c v)) → FallsBy n u (take p c x go)
-  f_take c x go h next = f_spot ToRead c x _ h (λ c h s t. λ v. f_if (is_whole v) c NotSet (Perform (effect.Clear s) (go c v)) (next c h v))
+  f_take : (fate : effect.Fate) (c : Control) (x : Place) (go : Control → Val → Interaction Control)
+      → Has 1 c → ((c : Control) → Has 1 c → (v : Val) → FallsBy n u (go c v)) → FallsBy n u (take_as fate p c x go)
+  f_take fate c x go h next = f_spot ToRead c x _ h (λ c h s t. λ v. f_if (is_whole v) c NotSet (Perform (effect.Clear s fate) (go c v)) (next c h v))
 
   f_write : (c : Control) (x : Place) (v : Val) (go : Control → Interaction Control)
       → Has 1 c → ((c : Control) → Has 1 c → FallsBy n u (go c)) → FallsBy n u (write p c x v go)
@@ -361,7 +361,7 @@ module _ (n u : ℕ) (p : Setting) where
   f_built c Le to from spans h = f_compares c to from _ h
   f_built c Not to from spans h = f_one c from _ (λ a. f_read_flag c a _ h (λ c h b. f_store c to _ h))
   f_built c NewArray to from spans h = f_store c to (Array No) h
-  f_built c Push to from spans h = f_two c from _ (λ x a. f_take c a _ h (λ c h v. f_read_array c x _ h (λ c h y vs. f_done c h)))
+  f_built c Push to from spans h = f_two c from _ (λ x a. f_take effect.Moved c a _ h (λ c h v. f_read_array c x _ h (λ c h y vs. f_done c h)))
   f_built c Pop to from spans h = f_one c from _ (λ x. f_one c spans _ (λ s. f_read_array c x _ h (λ c h y vs. f_pop c to s y vs h)))
   f_built c Swap to from spans h = f_three c from _ (λ x a b. f_two c spans _ (λ s t. f_swap c x a b s t h))
   f_built c Count to from spans h = f_one c from _ (λ x. f_read_array c x _ h (λ c h y vs. f_store c to (Number Int (pos (many vs))) h))
@@ -388,7 +388,7 @@ module _ (n u : ℕ) (p : Setting) where
   f_move_all c a i [] [] go h next = next c h
   f_move_all c a i [] (y ∷ ys) go h next = halts Stuck refl
   f_move_all c a i (x ∷ xs) [] go h next = halts Stuck refl
-  f_move_all c a i (x ∷ xs) (y ∷ ys) go h next = f_take c x _ h (λ c h v. f_move_all c a (suc i) xs ys go h next)
+  f_move_all c a i (x ∷ xs) (y ∷ ys) go h next = f_take effect.Moved c x _ h (λ c h v. f_move_all c a (suc i) xs ys go h next)
 
   f_enter : (c : Control) (ramp : Bool) (o : Option Fun) (lent : List ℕ) (owned : List Place) (dest : Dest) → Has 1 c
       → FallsBy n u (enter p c ramp o lent owned dest)
@@ -469,7 +469,7 @@ module _ (n u : ℕ) (p : Setting) where
   f_drop Deinitialises c x h =
       g_spot (Has 2) (λ c h. h) (λ c h. less h.0 (let le : 2 + (work_size c.now.work + rest_size c) ≤ u = h.1 in omega arith)) ToDrop c x _ h
       (λ c h s t. less h.0 (let le : 2 + (work_size c.now.work + rest_size c) ≤ u = h.1 in omega arith))
-  f_drop GivesUp c x h = f_take c x _ (h.0, let le : 2 + (work_size c.now.work + rest_size c) ≤ u = h.1 in omega arith) (λ c h v. f_done c h)
+  f_drop GivesUp c x h = f_take effect.Discarded c x _ (h.0, let le : 2 + (work_size c.now.work + rest_size c) ≤ u = h.1 in omega arith) (λ c h v. f_done c h)
 
   -- STATEMENTS
 
@@ -483,7 +483,7 @@ module _ (n u : ℕ) (p : Setting) where
   f_does c (Set to k) h = f_spot ToWrite c to _ h (λ c h s t. f_some c (constant (form p.core.types t) k) _ (λ v e. f_done c h))
   f_does c (Lend to place w) h = f_spot (aim w) c place _ h (λ c h s t. f_count_if (is_counted place.steps) c h)
   f_does c (Close l) h = f_close c l (sleeper_of c.asleep (key c l)) h
-  f_does c (Move to from) h = f_take c from _ h (λ c h v. f_write c to v Return h f_done)
+  f_does c (Move to from) h = f_take effect.Moved c from _ h (λ c h v. f_write c to v Return h f_done)
   f_does c (Copy to from) h =
       f_read c from _ h (λ c h v. f_charged c (charge v c.turns c.opened) _ (subst (λ k. Pays k (charge v c.turns c.opened)) h.0 (pays v c.turns c.opened))
       (λ m o le. paid (record c { turns = m; opened = o }) v (le_cases m le) h.1))
@@ -515,7 +515,7 @@ module _ (n u : ℕ) (p : Setting) where
   f_does c Continue h =
       f_some c (continued c.now.work) _ (λ w e. less h.0 (let le : 1 + (work_size c.now.work + rest_size c) ≤ u = h.1 in let l =
       continued_le c.now.work w e in omega arith))
-  f_does c (Leave from) h = f_take c from _ h (λ d g v. last d v (length (lent_types c.now.fun)) g)
+  f_does c (Leave from) h = f_take effect.Moved c from _ h (λ d g v. last d v (length (lent_types c.now.fun)) g)
     where
       last : (c : Control) (v : Val) (k : ℕ) → Has 1 c → FallsBy n u (close_all c k (back p c c.callers v c.now.dest))
       last c v k h =

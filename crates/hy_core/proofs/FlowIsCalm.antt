@@ -288,7 +288,8 @@ module _ (p : Setting) (signatures : ℕ → Signature) (signs : (n : ℕ) → s
       where
         passes : Passes g d
         passes = passes_on g (given x g place) d (given_pass x g place) (flows_pass x _ d flows)
-    drop_good place d ok flows w GivesUp = good_take p (TS c.halt) slots g c.now.id now_view (Like c) (like_count c) (like_id c) place _ ok.exact ok.free
+    drop_good place d ok flows w GivesUp =
+        good_take p (TS c.halt) slots g c.now.id now_view (Like c) (like_count c) (like_id c) effect.Discarded place _ ok.exact ok.free
         (λ e v l. fine p signatures c slots number g half others d (passes_on g (given x g place) d (given_pass x g place) (flows_pass x _ d flows)) w e l)
         c (like_self c)
 

@@ -12,7 +12,7 @@ use Rattle.hy_core.proofs.Follows.{Agrees, agrees_read, agrees_look, agrees_stor
 agrees_op : (op : Effect) (m : Copies) (s : Cells) → Agrees m s → May op m → Agrees (apply copying op m) (apply lending op s)
 agrees_op (Store t v) m s a may = agrees_store m s a t v may
 agrees_op (Change t v) m s a may = agrees_store m s a t v may
-agrees_op (Clear t) m s a may = agrees_store m s a t Unset may
+agrees_op (Clear t fate) m s a may = agrees_store m s a t Unset may
 agrees_op (Lend k t way) m s a may = agrees_lend m s a k t way may
 agrees_op (Hand k l) m s a may = agrees_hand m s a k l may
 agrees_op (Quit i n) m s a may = a

@@ -93,7 +93,7 @@ close_sound m k may h = subst (λ x. Sound (close_copy m k x)) (sym may.opened) 
 pub sound_apply : (o : Effect) (m : Copies) → May o m → Sound m → Sound (apply copying o m)
 sound_apply (Store s v) m may h = store_sound m s v may h
 sound_apply (Change s v) m may h = store_sound m s v may h
-sound_apply (Clear s) m may h = store_sound m s Unset may h
+sound_apply (Clear s fate) m may h = store_sound m s Unset may h
 sound_apply (Lend k s way) m may h = lend_sound m k s way may.closed may.shut may.other may.there (free way may.free) h
   where
     free : (way : Way) → MayOpen m s way → (c : Key) (o : Origin) → m.opened c ≡ Some o → o.base ≡ s.key → (way ≡ Writes) ⊎ (o.way ≡ Writes)

@@ -289,7 +289,7 @@ module _ (p : Setting) (signatures : ℕ → Signature) where
     pub leave_set : (from : Place) (u : TyId) → IsOf p.core c.now.fun u from → Leaves p.core c.now.fun (is_ramp c.now.fun) u → TakeOk x g from
         → IsLast x (given x g from) → Sure p S (does p c (Leave from)) m
     leave_set from u of result ok last =
-        takes p signatures sh c m number g here g m (now_here p signatures sh c m number g here) from u _ of ok (λ e v m' like fits is now.
+        takes p signatures sh c m number g here effect.Moved g m (now_here p signatures sh c m number g here) from u _ of ok tt (λ e v m' like fits is now.
         subst (λ e. Sure p S (Perform (effect.Quit e.now.id (length (lent_types c.now.fun)))
         (close_all e (length (lent_types c.now.fun)) (back p e e.callers v e.now.dest))) m') (sym like.is) (λ calm. (
           (λ j le. gone (given x g from) m' now last calm.0 j le),

@@ -200,7 +200,7 @@ module _ (p : Setting) (signatures : ℕ → Signature) (sh : Shaped p.core) (re
   moves_set go k (q ∷ qs) [] i first h m' now ok are types mv le next e like = λ calm. over Stuck refl (λ e. absurd (cc))
   moves_set go k (q ∷ qs) (u ∷ us) i first h m' now ok are types mv le next e like =
       good_take p (Stands p signatures) signatures number ty' (suc c.started) promised' first m.opened c ty_mine (less_more here.below)
-      (small_of p.core sh number c.now.fun here.found) h m' now q u _ are.0 ok.0 (λ e v m' like fits is now calm. (
+      (small_of p.core sh number c.now.fun here.found) h m' now effect.Moved q u _ are.0 ok.0 tt (λ e v m' like fits is now calm. (
         nothing_there (given (context p signatures number c.now.fun) h q) m' first i u now (types_first i u us types) (mv.2 i (omega arith)) calm.0,
         moves_set go k qs us (suc i) (set_at first (at c.started i) all_set) (given (context p signatures number c.now.fun) h q) _
             (moved (given (context p signatures number c.now.fun) h q) m' first i u v now (types_first i u us types) fits is calm.0) ok.1 are.1

@@ -188,7 +188,7 @@ module _ (p : Setting) (signatures : ℕ → Signature) (signs : (n : ℕ) → s
         by_stage : (stage : Stage) → IsOf p.core c.now.fun is.0 place → IsDropped (context p signatures number c.now.fun) stage g place
             → Sure p S (drop p stage c place) m
         by_stage Deinitialises of set = drop_begins p signatures sh c m number g here place is.0 d of t.0 t.2 w
-        by_stage GivesUp of set = drop_set p signatures sh c m number g here place is.0 d of (record { give = t.0; set = set.0 }) t.2 w
+        by_stage GivesUp of set = drop_set p signatures sh c m number g here place is.0 d of (record { give = t.0; set = set.0 }) set.1 t.2 w
     statement_set a (Call n lent owned to) d t is w out =
         call_set p signatures sh reads each c m number g here n is.0 is.1 lent owned to d is.2 is.3 is.4 is.5 is.7 t w
     statement_set a (Project n lent owned to) d t is w out =

@@ -11,13 +11,13 @@ use Rattle.hy_core.specs.Memory.{Key, whole, set_at, Way, Reads, Writes, Origin,
 use Rattle.hy_core.specs.Runs as effect
 use Rattle.hy_core.specs.Runs.{Interaction, Fetch, Inspect, Perform, Return, apply}
 use Rattle.hy_core.specs.Calm.{IsKept, MayOpen, MayClose}
-use Rattle.hy_core.specs.Control.{Form, Numbers, Flags, Tuples, Products, Arrays, Unknown, form, parts_of}
+use Rattle.hy_core.specs.Control.{Form, Numbers, Flags, Tuples, Products, Arrays, Unknown, form, parts_of, take_as}
 use Rattle.hy_core.specs.Control.{local_type, Work, Nowhere, Activation, Ends, NotOpened}
-use Rattle.hy_core.specs.Control.{Control, GivesUp, Setting, stop, with_work, key, take, write, sleeper_of}
+use Rattle.hy_core.specs.Control.{Control, GivesUp, Setting, stop, with_work, key, write, sleeper_of}
 use Rattle.hy_core.specs.Statements.{built, constant, Charge, Paid, Unpaid, charge, charged, close_of, is_counted, count_if, way, drop, does}
 use Rattle.hy_core.specs.Typing.{all, place_type, type_at, still, IsLeaf, IsSmall}
 use Rattle.hy_core.specs.Shaped.{IsOf, IsConstant, IsBuilt, Shaped}
-use Rattle.hy_core.specs.Flow.{Loan, Status, Own, Param, Opened, Bound, InitState, IsSet, IsUnset, IsKnown, IsNotTied}
+use Rattle.hy_core.specs.Flow.{Loan, Status, Own, Param, Opened, Bound, InitState, IsSet, IsUnset, IsKnown, IsNotTied, HasNoElements}
 use Rattle.hy_core.specs.Flow.{IsUntied, InitMap, all_set, none_set, map_at, with_map, FlowState}
 use Rattle.hy_core.specs.Flow.{Signature, Context, set_local, with_init, with_status, is_exact, IsEntered, IsSetAt, IsLocalSet, ReadOk, StoreOk, GiveOk}
 use Rattle.hy_core.specs.Flow.{TakeOk, given, stored, FlowsInto, IsLendable, opened_map, opened, LendOk, come_back, ComesBack, Without, Closes}
@@ -36,7 +36,7 @@ use Rattle.hy_core.proofs.SetValues.{truth_of, with_map_apart, map_below, leaf_b
 use Rattle.hy_core.proofs.SetValues.{sets_exact, sets_inner, sets_part, sets_single, sets_whole, all_sets}
 use Rattle.hy_core.proofs.FlowStates.{Tells, tells_set, tells_same, tells_less}
 use Rattle.hy_core.proofs.SetMemories.{InitMaps, NotAway, Holds, holds_lend, holds_closed, BackOk}
-use Rattle.hy_core.proofs.SetWalks.{Fine, over, stands, Sure, good_some, with_rel, wholes, tells_change, tells_set_local, untied_with}
+use Rattle.hy_core.proofs.SetWalks.{Fine, over, stands, Sure, good_some, with_rel, wholes, tells_change, tells_set_local, untied_with, MayLeave}
 use Rattle.hy_core.proofs.SetWalks.{EndsAt, still_exact, still_array, LoanTie, LoanType, Tie, Now, typed_at}
 use Rattle.hy_core.proofs.SetWalks.{local_sets, fits_there, spot_set, spot_blank, spot_store, good_read, good_take, good_write, built_good, AllBound}
 use Rattle.hy_core.proofs.SetFrames.{SameInit, flows_less, WorkSet, Runs_on, CallersSet, AsleepSet, Stands, Changes, frame_keep, callers_keep}
@@ -325,13 +325,13 @@ module _ (p : Setting) (signatures : ℕ → Signature) where
 
     -- TALKS of this activation
 
-    pub takes : (h : FlowState) (m' : Copies) → NowOf h m' → (place : Place) (u : TyId) (go : Control → Val → Interaction Control)
-        → IsOf p.core c.now.fun u place → TakeOk x h place
+    pub takes : (fate : effect.Fate) (h : FlowState) (m' : Copies) → NowOf h m' → (place : Place) (u : TyId) (go : Control → Val → Interaction Control)
+        → IsOf p.core c.now.fun u place → TakeOk x h place → MayLeave x fate h place
         → ((e : Control) (v : Val) (m' : Copies) → Like c e → Fits p.core.types (form p.core.types u) v → is_whole v ≡ true → NowOf (given x h place) m'
-        → Sure p S (go e v) m') → (e : Control) → Like c e → Sure p S (take p e place go) m'
-    takes h m' now place u go of ok next e like =
+        → Sure p S (go e v) m') → (e : Control) → Like c e → Sure p S (take_as fate p e place go) m'
+    takes fate h m' now place u go of ok leave next e like =
         good_take p (Stands p signatures) signatures number here.ty c.started here.promised here.maps m.opened c here.locals here.below
-        (small_of p.core sh number c.now.fun here.found) h m' now place u go of ok next e like
+        (small_of p.core sh number c.now.fun here.found) h m' now fate place u go of ok leave next e like
 
     pub writes : (h : FlowState) (m' : Copies) → NowOf h m' → (place : Place) (u : TyId) (v : Val) (go : Control → Interaction Control)
         → IsOf p.core c.now.fun u place → StoreOk x h place → Fits p.core.types (form p.core.types u) v → is_whole v ≡ true
@@ -372,7 +372,7 @@ module _ (p : Setting) (signatures : ℕ → Signature) where
 
     pub move_set : (to from : Place) (u : TyId) (d : FlowState) → IsOf p.core c.now.fun u to → IsOf p.core c.now.fun u from → TakeOk x g from
         → StoreOk x (given x g from) to → FlowsInto x (stored x (given x g from) to) d → Left d → Sure p S (does p c (Move to from)) m
-    move_set to from u d to_of from_of ok store flows w = takes g m now_here from u _ from_of ok (λ e v m' like fits whole now.
+    move_set to from u d to_of from_of ok store flows w = takes effect.Moved g m now_here from u _ from_of ok tt (λ e v m' like fits whole now.
         writes (given x g from) m' now to u v Return to_of store fits whole
         (λ e m' like now calm. done d w (stored x (given x g from) to) e m' like now flows) e like) c (like_self c)
 
@@ -390,10 +390,11 @@ module _ (p : Setting) (signatures : ℕ → Signature) where
             (record e { turns = k; opened = o }) (like_with c e k o e.input e.output like)
         by e v (Unpaid o) like fits whole = λ calm. over (Ends end.Spent) refl (λ e. absurd (cc))
 
-    pub drop_set : (place : Place) (u : TyId) (d : FlowState) → IsOf p.core c.now.fun u place → TakeOk x g place → FlowsInto x (given x g place) d → Left d
-        → Sure p S (drop p GivesUp c place) m
-    drop_set place u d of ok flows w =
-        takes g m now_here place u _ of ok (λ e v m' like fits whole now calm. done d w (given x g place) e m' like now flows) c (like_self c)
+    pub drop_set : (place : Place) (u : TyId) (d : FlowState) → IsOf p.core c.now.fun u place → TakeOk x g place → HasNoElements x g place
+        → FlowsInto x (given x g place) d → Left d → Sure p S (drop p GivesUp c place) m
+    drop_set place u d of ok none flows w =
+        takes effect.Discarded g m now_here place u _ of ok none
+        (λ e v m' like fits whole now calm. done d w (given x g place) e m' like now flows) c (like_self c)
 
     -- LENDING a place of one's own
 

@@ -12,18 +12,19 @@ use Rattle.hy_types.specs.Types.{Table, declared}
 use Rattle.hy_types.specs.Words.{HasShape, Takes, of, TakeTogether, none, more}
 use Rattle.hy_types.specs.Words as sizes
 use Rattle.hy_core.specs.Values.{Val, Unset, Number, Truth, Tuple, Product, Array, Vals, No, And, Selector, PartAt, ElementAt, Path, many, nth, with_nth}
-use Rattle.hy_core.specs.Values.{part, with_part, get, put, shape, Has, IsThere, is_whole, all_whole, is_blank, all_blank, holds_array, any_array, Diverge}
+use Rattle.hy_core.specs.Values.{part, with_part, get, put, shape, Has, IsThere, is_whole, all_whole, is_blank, all_blank, holds_array, any_array}
+use Rattle.hy_core.specs.Values.{nests_array, any_nests, Diverge}
 use Rattle.hy_core.specs.Operators.{at_end, popped, blanks, ordered, same_type}
 use Rattle.hy_base.specs.declared.numbers.IntegerType.TheVariants.{Int}
 use Rattle.hy_core.specs.Statements.{swapped}
 use Rattle.hy_core.specs.Control.{Form, Numbers, Flags, Arrays, product_form, form_of, form, parts_of, part_type}
-use Rattle.hy_core.specs.Typing.{Among, selected_type, type_at, IsLeaf, IsArrayAt, IsIn, IsSmall}
+use Rattle.hy_core.specs.Typing.{Among, selected_type, type_at, IsLeaf, IsArrayAt, IsNestedAt, IsIn, IsSmall}
 use Rattle.hy_core.specs.Flow.{InitState, IsUnset, IsSet, IsKnown, IsEmpty, IsEmptyWithout, IsDoubtful, IsSetWith, IsSetSo, Counts}
 use Rattle.hy_core.specs.Flow.{InitMap, map_at, with_map, all_set, none_set}
 use Rattle.hy_core.proofs.Values.{selector_tells, selector_dec, get_get, get_put_below, get_put_apart, there_back}
 use Rattle.hy_core.proofs.OpenPlaces.{get_put}
 use Rattle.hy_core.proofs.Values.{get_unset}
-use Rattle.hy_core.proofs.Typed.{form_at, sub, form_on, Fits, FitsAll, fits_part, fits_many, fits_blanks}
+use Rattle.hy_core.proofs.Typed.{form_at, sub, form_on, Fits, FitsAll, FitsEach, fits_part, fits_many, fits_blanks}
 use Rattle.hy_core.proofs.TypedWalks.{sub_selected}
 
 -- WHOLE VALUES
@@ -575,6 +576,34 @@ module _ (types : Table) where
     no_arrays [] (And v vs) fits h = absurd fits
     no_arrays (t ∷ ts) (And v vs) fits h =
         or_none (holds_array v) (any_array vs) (no_array t v fits.0 (λ q l. h 0 t q refl l)) (no_arrays ts vs fits.1 (λ i u q e l. h (suc i) u q e l))
+
+  -- a value in which each array that may hold arrays has no element
+  nested_part : (t : TyId) (parts : List TyId) (i : ℕ) (u : TyId) (r : Path) → parts_of (form types t) ≡ parts → slice_get parts i ≡ Some u
+      → IsNestedAt types u r → IsNestedAt types t (PartAt i ∷ r)
+  nested_part t parts i u r e q l = (l.0, l.1, ap (λ o. type_at types o r) (ap (λ us. slice_get us i) e ∙ q) ∙ l.2, l.3, l.4)
+
+  flat_elements : (e : TyId) (vs : Vals) → FitsEach types e vs → ((r : Path) → IsArrayAt types e r → ⊥) → any_array vs ≡ false
+  flat_elements e No fits h = refl
+  flat_elements e (And v vs) fits h =
+      or_none (holds_array v) (any_array vs) (no_array e v fits.0 (λ r arr. absurd (h r arr))) (flat_elements e vs fits.1 h)
+
+  mutual
+    pub none_nested : (t : TyId) (v : Val) → Fits types (form types t) v → ((q : Path) → IsNestedAt types t q → get q v ≡ Array No) → nests_array v ≡ false
+    none_nested t Unset fits h = refl
+    none_nested t (Number u n) fits h = refl
+    none_nested t (Truth b) fits h = refl
+    none_nested t (Tuple vs) fits h = no_nests fits.0 vs fits.2 (λ i u q e l. h (PartAt i ∷ q) (nested_part t fits.0 i u q (ap parts_of fits.1) e l))
+    none_nested t (Product d vs) fits h = no_nests fits.0 vs fits.3 (λ i u q e l. h (PartAt i ∷ q) (nested_part t fits.0 i u q (ap parts_of fits.1) e l))
+    none_nested t (Array No) fits h = refl
+    none_nested t (Array (And v vs)) fits h = flat_elements fits.0 (And v vs) fits.2
+        (λ r arr. let z : Array (And v vs) ≡ Array No = h [] (t, fits.0, refl, fits.1, (r, arr)) in absurd (cc))
+
+    no_nests : (ts : List TyId) (vs : Vals) → FitsAll types ts vs
+        → ((i : ℕ) (u : TyId) (q : Path) → slice_get ts i ≡ Some u → IsNestedAt types u q → get q (nth i vs) ≡ Array No) → any_nests vs ≡ false
+    no_nests ts No fits h = refl
+    no_nests [] (And v vs) fits h = absurd fits
+    no_nests (t ∷ ts) (And v vs) fits h = or_none (nests_array v) (any_nests vs) (none_nested t v fits.0 (λ q l. h 0 t q refl l))
+        (no_nests ts vs fits.1 (λ i u q e l. h (suc i) u q e l))
 
   in_in : (n m : ℕ) (w u t : TyId) → IsIn types n w u → IsIn types m u t → (k : ℕ) × IsIn types k w t
   in_in n zero w u t i j = (n, subst (IsIn types n w) j i)

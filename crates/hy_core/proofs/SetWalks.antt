@@ -22,21 +22,21 @@ use Rattle.hy_core.specs.Values.{all_whole, holds_array, Selector, PartAt, Eleme
 use Rattle.hy_core.specs.Memory.{Key, Spot, whole, Way, Reads, Writes, Origin, Copies, copying, set_at}
 use Rattle.hy_core.specs.Runs as effect
 use Rattle.hy_core.specs.Runs.{Interaction, Fetch, Inspect, Perform, Return, apply, interpret}
-use Rattle.hy_core.specs.Dropped.{Keeps}
+use Rattle.hy_core.specs.Dropped.{LosesNone, Keeps}
 use Rattle.hy_core.specs.Calm.{IsKept, MayWrite}
 use Rattle.hy_core.specs.Operators.{negated, converted, equal, line_of, index_in, at_end, popped, blanks, ordered}
 use Rattle.hy_core.specs.Control.{Form, Numbers, Flags, Arrays, form, parts_of, part_type, element_type, blank_of, local_type, Halt, Ends, Stuck, NotSet}
-use Rattle.hy_core.specs.Control.{Control, Setting, stop, key, count_one, with_some, trapped, turn, with_number, with_flag, with_array, with_set}
+use Rattle.hy_core.specs.Control.{Control, Setting, stop, key, count_one, with_some, trapped, turn, with_number, with_flag, with_array, with_set, take_as}
 use Rattle.hy_core.specs.Control.{with_index, ToWrite, at_part, at_element, walk, spot, read, take, write, read_number, read_flag, read_array, Tuples}
 use Rattle.hy_core.specs.Control.{Products, Unknown}
-use Rattle.hy_core.specs.Typing.{all, type_at, steps_type, still, IsLeaf, IsArrayAt, IsSmall}
+use Rattle.hy_core.specs.Typing.{all, type_at, steps_type, still, IsLeaf, IsSmall}
 use Rattle.hy_core.specs.Statements.{changes_one, with_one, with_two, with_three, store_to, give, arithmetic, compares, pop, swapped, swap, prints, reads}
 use Rattle.hy_core.specs.Statements.{built}
 use Rattle.hy_core.specs.Shaped.{HasForm, IsStep, IsOf, IsOfForm, IsPlain, IsBuilt}
 use Rattle.hy_core.specs.Shaped as shaped
 use Rattle.hy_core.specs.Flow as transfer
-use Rattle.hy_core.specs.Flow.{Loan, Status, Own, Param, Opened, Bound, InitState, IsSet, IsUnset, IsKnown, IsEmpty, IsEmptyWithout, IsNotTied}
-use Rattle.hy_core.specs.Flow.{retied, changed, counted, CountOk, compared, CompareOk, is_whole_local, HasNoElements}
+use Rattle.hy_core.specs.Flow.{Loan, Status, Own, Param, Opened, Bound, InitState, IsSet, IsUnset, IsKnown, IsEmpty, IsEmptyWithout, IsNotTied, Counts}
+use Rattle.hy_core.specs.Flow.{retied, changed, counted, CountOk, compared, CompareOk, is_whole_local, HasNoElements, still_map}
 use Rattle.hy_core.specs.Flow.{IsSetSo, IsUntied, InitMap, all_set, none_set, map_at, with_map, FlowState}
 use Rattle.hy_core.specs.Flow.{Signature, Context, with_init, is_exact, IndexesOk, IsSetAt, IsEntered, NoArray, ReadOk, ChangeOk, StoreOk, GiveOk, TakeOk}
 use Rattle.hy_core.specs.Flow.{set_local, given, stored_as, stored_if, stored, FlowsInto, Computes, TransfersBuilt}
@@ -49,8 +49,8 @@ use Rattle.hy_core.proofs.TypedWalks.{has_blank, sub_part, is_arrays}
 use Rattle.hy_core.proofs.CalmWalks.{Slots, IsQuiet, at, aim_for, exact_indexes, index_has}
 use Rattle.hy_core.proofs.CalmFrames.{context}
 use Rattle.hy_core.proofs.CalmSteps.{Like, like_with, like_count, like_id}
-use Rattle.hy_core.proofs.FlowStates.{Tells, tells_set, tells_unset, tells_counts, tells_other, tells_retied}
-use Rattle.hy_core.proofs.SetValues.{array_state, is_filled, array_meets, count_meets, zero_below, sets_told, sets_single}
+use Rattle.hy_core.proofs.FlowStates.{Tells, tells_set, tells_counts, tells_other, tells_retied}
+use Rattle.hy_core.proofs.SetValues.{array_state, is_filled, array_meets, count_meets, zero_below, sets_told, sets_single, none_nested, meets_counts}
 use Rattle.hy_core.proofs.SetValues.{Meets, meets_set, no_array, leaf_above, split, whole_get, whole_unset, whole_end, whole_popped, whole_swapped, map_below}
 use Rattle.hy_core.proofs.SetValues.{with_map_above, with_map_below, with_map_apart, type_append, form_type}
 use Rattle.hy_core.proofs.SetValues.{leaf_below, Sets, sets_exact, sets_inner, sets_blank}
@@ -294,6 +294,12 @@ Tie types f id l (Bound w) slot = IsForeign id w slot
 -- what is promised of each local that a `Project` opened: all is set when it closes
 abbrev pub AllBound : (ℕ → Status) → (ℕ → InitMap) → Type 0
 AllBound status promised = (l : ℕ) (w : Way) → status l ≡ Bound w → (q : Path) → promised l q ≡ IsSet
+
+-- What is given up has no array that may hold arrays and has an element.
+abbrev pub MayLeave : Context → effect.Fate → FlowState → Place → Type 0
+MayLeave x effect.Moved g place = Unit {0}
+MayLeave x effect.Deinitialised g place = Unit {0}
+MayLeave x effect.Discarded g place = HasNoElements x g place
 
 -- WALKS of an activation: `first` says what was set when the step began, and P what is to be when something closes
 
@@ -588,23 +594,37 @@ module _ (p : Setting) (S : Control → Copies → Type 0) (signatures : ℕ →
         (next c m like h (ap (type_at p.core.types (local_type k₀.now.fun l)) (sym (append_assoc q (PartAt i ∷ []) (still steps))) ∙ is)))) calm.1)
     walk_blank (Index j s ∷ steps) c m q t exact like h is e next = absurd (cc)
 
+  -- what stands at a part of a place is as the flow state says
+  part_meets : (g : FlowState) (m : Copies) (h : Now g m) (place : Place) (u : TyId) (s : InitState)
+      → type_at p.core.types (local_type k₀.now.fun place.local) (still place.steps) ≡ Some u → IsKept m (mine place.local) → (q : Path)
+      → IsLeaf p.core.types u q → Counts s (still_map x g place q) → Meets s (get q (get (still place.steps) (m.value (mine place.local))))
+  part_meets g m h place u s is kept q leaf counts = by (local_type k₀.now.fun place.local) refl is
+    where
+      by : (o : Option TyId) → local_type k₀.now.fun place.local ≡ o → type_at p.core.types o (still place.steps) ≡ Some u
+          → Meets s (get q (get (still place.steps) (m.value (mine place.local))))
+      by None e is = absurd (cc)
+      by (Some t) e is = let inner = leaf_below p.core.types t u (still place.steps) q is leaf in
+          subst (Meets s) (get_get (still place.steps) q (m.value (mine place.local)))
+          (meets_counts s (h.maps (mine place.local) (still place.steps ++ q)) (get (still place.steps ++ q) (m.value (mine place.local)))
+          (tells_counts (wholes h.maps k₀.now.id) s (g.init place.local (still place.steps ++ q)) (h.maps (mine place.local) (still place.steps ++ q))
+          (subst (Counts s) (map_below (still place.steps) (g.init place.local) q) counts)
+          (h.agrees place.local t (still place.steps ++ q) e inner)) (local_sets g m h place.local t e kept (still place.steps ++ q) inner))
+
   -- no array is set where none is known to be
   unset_over : (g : FlowState) (m : Copies) (h : Now g m) (place : Place) (u : TyId) → IsOf p.core k₀.now.fun u place
       → type_at p.core.types (local_type k₀.now.fun place.local) (still place.steps) ≡ Some u → NoArray x g place true → IsKept m (mine place.local)
       → holds_array (get (still place.steps) (m.value (mine place.local))) ≡ false
-  unset_over g m h place u of is none_there kept =
-      no_array p.core.types u _ (fits_at g m h place.local (still place.steps) u is) (λ q arr. by (local_type k₀.now.fun place.local) refl is q arr)
-    where
-      by : (o : Option TyId) → local_type k₀.now.fun place.local ≡ o → type_at p.core.types o (still place.steps) ≡ Some u → (q : Path)
-          → IsArrayAt p.core.types u q → get q (get (still place.steps) (m.value (mine place.local))) ≡ Unset
-      by None e is q arr = absurd (cc)
-      by (Some t) e is q arr = let leaf : IsLeaf p.core.types u q = (arr.0, arr.2, ap parts_of arr.3) in
-          sym (get_get (still place.steps) q (m.value (mine place.local)))
-          ∙ subst (λ z. Meets z (get (still place.steps ++ q) (m.value (mine place.local))))
-          (tells_unset (wholes h.maps k₀.now.id) (g.init place.local (still place.steps ++ q)) (h.maps (mine place.local) (still place.steps ++ q))
-          (sym (map_below (still place.steps) (g.init place.local) q) ∙ none_there u of.0 q arr)
-          (h.agrees place.local t (still place.steps ++ q) e (leaf_below p.core.types t u (still place.steps) q is leaf)))
-          (local_sets g m h place.local t e kept (still place.steps ++ q) (leaf_below p.core.types t u (still place.steps) q is leaf))
+  unset_over g m h place u of is none_there kept = no_array p.core.types u _ (fits_at g m h place.local (still place.steps) u is) (λ q arr.
+      part_meets g m h place u IsUnset is kept q (arr.0, arr.2, ap parts_of arr.3) (none_there u of.0 q arr))
+
+  -- no array is in one that is given up where none is known to have an element
+  loses_none : (fate : effect.Fate) (g : FlowState) (m : Copies) (h : Now g m) (place : Place) (u : TyId) → IsOf p.core k₀.now.fun u place
+      → type_at p.core.types (local_type k₀.now.fun place.local) (still place.steps) ≡ Some u → MayLeave x fate g place → IsKept m (mine place.local)
+      → LosesNone fate (get (still place.steps) (m.value (mine place.local)))
+  loses_none effect.Moved g m h place u of is none kept = tt
+  loses_none effect.Deinitialised g m h place u of is none kept = tt
+  loses_none effect.Discarded g m h place u of is none kept = none_nested p.core.types u _ (fits_at g m h place.local (still place.steps) u is)
+      (λ q arr. part_meets g m h place u IsEmpty is kept q (arr.0, arr.2, ap parts_of arr.3) (none u of.0 q arr))
 
   -- PLACES
 
@@ -718,23 +738,19 @@ module _ (p : Setting) (S : Control → Copies → Type 0) (signatures : ℕ →
         (λ may. covered g m h place.local (still place.steps) u none_set none_set Unset (exact_type place u of exact) may tt
         (sets_none p.core.types u) none_tells untied) may
 
-    pub good_take : (place : Place) (u : TyId) (go : Control → Val → Interaction Control) → IsOf p.core k₀.now.fun u place → TakeOk x g place
+    pub good_take : (fate : effect.Fate) (place : Place) (u : TyId) (go : Control → Val → Interaction Control) → IsOf p.core k₀.now.fun u place
+        → TakeOk x g place → MayLeave x fate g place
         → ((c : Control) (v : Val) (m : Copies) → Like k₀ c → Fits p.core.types (form p.core.types u) v → is_whole v ≡ true → Now (given x g place) m
-        → Sure p S (go c v) m) → (c : Control) → Like k₀ c → Sure p S (take p c place go) m
-    good_take place u go of ok next = spot_set Reads place u _ of (exact_indexes g place.steps ok.give.exact) ok.set (λ c r like ends wh e calm.
+        → Sure p S (go c v) m) → (c : Control) → Like k₀ c → Sure p S (take_as fate p c place go) m
+    good_take fate place u go of ok leave next = spot_set Reads place u _ of (exact_indexes g place.steps ok.give.exact) ok.set (λ c r like ends wh e calm.
         let v = get r (m.value (mine place.local)) in
         let z : r ≡ still place.steps = subst (λ b. EndsAt b (still place.steps) r) ok.give.exact ends in
-        good_set p S c v (Perform (effect.Clear (record { key = mine place.local; path = r })) (go c v)) m (wh calm.0.kept)
-        (λ calm. (
-          tt,
-          next c v _ like (fits_there place.local r (form p.core.types u) e) (wh' c r wh calm) (gave place u of ok.give.exact r z ok.give.untied calm.0)
-              calm.1,
-        )) calm.1)
-      where
-        wh' : (c : Control) (r : Path) → (IsKept m (mine place.local) → is_whole (get r (m.value (mine place.local))) ≡ true)
-            → IsQuiet (Perform (effect.Clear (record { key = mine place.local; path = r })) (go c (get r (m.value (mine place.local))))) m
-            → is_whole (get r (m.value (mine place.local))) ≡ true
-        wh' c r wh calm = wh calm.0.kept
+        let whole : is_whole (get r (m.value (mine place.local))) ≡ true = wh calm.0.kept in
+        let fits = fits_there place.local r (form p.core.types u) e in
+        let keeps = subst (λ r. LosesNone fate (get r (m.value (mine place.local)))) (sym z)
+        (loses_none fate g m h place u of (exact_type place u of ok.give.exact) leave calm.0.kept) in
+        good_set p S c v (Perform (effect.Clear (record { key = mine place.local; path = r }) fate) (go c v)) m whole
+        (λ calm. (keeps, next c v _ like fits whole (gave place u of ok.give.exact r z ok.give.untied calm.0) calm.1)) calm.1)
 
     -- a walk to a place that is stored to, which makes it so; no array is set there
     pub spot_store : (place : Place) (u : TyId) (go : Control → Spot → TyId → Interaction Control) → IsOf p.core k₀.now.fun u place → StoreOk x g place
@@ -1027,7 +1043,8 @@ module _ (p : Setting) (S : Control → Copies → Type 0) (signatures : ℕ →
             ∙ set_same h.maps (mine to.local) (with_map [] (λ q. IsKnown (is_filled vs)) (h.maps (mine to.local))))
 
         agrees : Agrees (counted x g to array) E'
-        agrees j t r e leaf = tells_set_local E k₀.now.id array.local mid.init (with_map (still array.steps) (λ q. IsEmptyWithout to.local) (mid.init array.local))
+        agrees j t r e leaf = tells_set_local E k₀.now.id array.local mid.init
+            (with_map (still array.steps) (λ q. IsEmptyWithout to.local) (mid.init array.local))
             (with_map (still array.steps) (λ q. array_state vs) (E (mine array.local))) j r (untied j t r e leaf) (old j t r e leaf) (λ y.
             with_rel (Tells (wholes E' k₀.now.id)) (still array.steps) (λ q. IsEmptyWithout to.local) (λ q. array_state vs) (mid.init array.local)
             (E (mine array.local)) r (λ b _. array_tells (wholes E' k₀.now.id) to.local vs known)
@@ -1128,7 +1145,8 @@ module _ (p : Setting) (S : Control → Copies → Type 0) (signatures : ℕ →
     push_good g m h (array ∷ (a ∷ [])) t is c like =
         let wa : IsOf p.core k₀.now.fun is.0 a = is.2 in
         let w : IsOfForm p.core k₀.now.fun (Arrays is.0) array = is.1 in
-        good_take g m h a is.0 _ wa t.0 (λ c v m like fits whole now. good_arrays (given x g a) m now array w.0 is.0 _ w.1 w.2 t.1.indexes t.1.set
+        good_take g m h effect.Moved a is.0 _ wa t.0 tt (λ c v m like fits whole now.
+        good_arrays (given x g a) m now array w.0 is.0 _ w.1 w.2 t.1.indexes t.1.set
         (λ c r vs like ends e each ws _ _ calm. (
           tt,
           done (changed x (given x g a) array) c _ like (array_changed (given x g a) m now array w.0 is.0 r (at_end vs v) w.1 w.2 ends e
@@ -1185,13 +1203,16 @@ module _ (p : Setting) (S : Control → Copies → Type 0) (signatures : ℕ →
     free_good : (g : FlowState) (m : Copies) → Now g m → (from : List Place)
         → transfer.One x from (λ array. TakeOk x g array × FlowsInto x (given x g array) d × HasNoElements x g array)
         → shaped.One p.core k₀.now.fun from (λ array. (t : TyId) × IsOfForm p.core k₀.now.fun (Arrays t) array)
-        → (c : Control) → Like k₀ c → Sure p S (with_one c from (λ array. read_array p c array (λ c at vs. Perform (effect.Clear at) (Return c)))) m
+        → (c : Control) → Like k₀ c
+        → Sure p S (with_one c from (λ array. read_array p c array (λ c at vs. Perform (effect.Clear at effect.Discarded) (Return c)))) m
     free_good g m h [] t is c like = absurd t
     free_good g m h (array ∷ (b ∷ more)) t is c like = absurd is
     free_good g m h (array ∷ []) t is c like =
         let w : IsOfForm p.core k₀.now.fun (Arrays is.0) array = is.1 in
-        good_arrays g m h array w.0 is.0 _ w.1 w.2 (exact_indexes g array.steps t.0.give.exact) t.0.set (λ c r vs like ends e each ws _ _ calm. (
-          tt,
+        good_arrays g m h array w.0 is.0 _ w.1 w.2 (exact_indexes g array.steps t.0.give.exact) t.0.set (λ c r vs like ends e each ws kept _ calm. (
+          subst (λ r. LosesNone effect.Discarded (get r (m.value (mine array.local))))
+              (sym (subst (λ b. EndsAt b (still array.steps) r) t.0.give.exact ends))
+              (loses_none effect.Discarded g m h array w.0 w.1 (exact_type g m h array w.0 w.1 t.0.give.exact) t.2 kept),
           done (given x g array) c _ like (gave g m h array w.0 w.1 t.0.give.exact r (subst (λ b. EndsAt b (still array.steps) r) t.0.give.exact ends)
               t.0.give.untied calm.0) t.1,
         )) c like

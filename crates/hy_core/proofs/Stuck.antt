@@ -262,7 +262,7 @@ module _ (p : Setting) where
     moves a go lt next [] [] i is from = next
     moves a go lt next [] (u ∷ us) i is from = absurd is
     moves a go lt next (x ∷ xs) [] i is from = absurd is
-    moves a go lt next (x ∷ xs) (u ∷ us) i is from = λ c m q h. good_take p Stands forms n f Q counted local x u _ is.0 (λ c m v q h fits.
+    moves a go lt next (x ∷ xs) (u ∷ us) i is from = λ c m q h. good_take p Stands forms n f Q counted local effect.Moved x u _ is.0 (λ c m v q h fits.
         moves a go lt next xs us (suc i) is.1 from.1 c _ q (typed_store p.core.types forms n m h (whole (at a i)) v lt
         (subst (λ y. Fits p.core.types y v) (sym from.0) fits))) c m q h
 
@@ -719,14 +719,15 @@ module _ (p : Setting) where
                 q.on.flows;
           }) h)
       good_drop GivesUp place t is =
-          good_take p Stands forms n f Now (q_count forms n n f y) (q_local forms n n f y) place t _ is (λ c m v q h fits. q_done forms n f y c m q h)
+          good_take p Stands forms n f Now (q_count forms n n f y) (q_local forms n n f y) effect.Discarded place t _ is
+          (λ c m v q h fits. q_done forms n f y c m q h)
 
       good_leave : (c : Control) (m : Copies) (from : Place) (t : TyId) → IsOf p.core f t from → Leaves p.core f (is_ramp f) t → y ≡ (is_ramp f)
           → BaseOf forms n n f c → DestOk (is_ramp f) y c.now.dest → Types m → Good Stands (does p c (Leave from)) m
       good_leave c m from t is leaves e base d h =
           let k = length (lent_types c.now.fun) in
           good_take p Stands forms n f (λ c. BaseOf forms n n f c × DestOk (is_ramp f) y c.now.dest) (λ c q. q) (λ c q. let b = q.0 in
-          record { fun = b.same; below = b.below; locals = b.locals }) from t _ is
+          record { fun = b.same; below = b.below; locals = b.locals }) effect.Moved from t _ is
           (λ c m v q h fits. closes forms n c (back p c c.callers v c.now.dest)
           (λ m h. good_back forms n c m c.callers v c.now.dest f.result q.0.none q.0.count q.0.naps q.0.frames
           (gives_back f (is_ramp f) y c.now.dest v t q.1 e leaves fits) h) k m h)
@@ -756,7 +757,7 @@ module _ (p : Setting) where
           good_close c m l (sleeper_of c.asleep (key c l)) (record { base = base; on = record { work = work; paths = paths; flows = d } }) h
       good_does c m (Move to from) base work d is paths h =
           let from_ok : IsOf p.core f is.0 from = is.2 in
-          good_take p Stands forms n f Now (q_count forms n n f y) (q_local forms n n f y) from is.0 _ from_ok (λ c m v q h fits.
+          good_take p Stands forms n f Now (q_count forms n n f y) (q_local forms n n f y) effect.Moved from is.0 _ from_ok (λ c m v q h fits.
           good_write p Stands forms n f Now (q_count forms n n f y) (q_local forms n n f y) to is.0 v Return is.1 fits (q_done forms n f y) c m q h) c m
           (record { base = base; on = record { work = work; paths = paths; flows = d } }) h
       good_does c m (Copy to from) base work d is paths h =

@@ -238,7 +238,7 @@ module _ (p : Setting) (S : Control → Copies → Type 0) (forms : Key → Form
       (λ array a. take p c a (λ c v. read_array p c array (λ c at vs. Perform (effect.Change at (Array (at_end vs v))) (Return c)))))
   good_push from is c m x h = good_two S p.core f c from _ _ m is (λ array a ab.
       let wa : IsOf p.core f ab.0 a = ab.2 in
-      good_take p S forms n f Q counts local a ab.0 _ wa (λ c m v x h fv. array_of array ab.0 _ ab.1 (λ at vs la e each c m x h.
+      good_take p S forms n f Q counts local effect.Moved a ab.0 _ wa (λ c m v x h fv. array_of array ab.0 _ ab.1 (λ at vs la e each c m x h.
       done c _ x (changed at ab.0 (at_end vs v) m la e (each_end p.core.types ab.0 vs v each fv) h)) c m x h) c m x h)
 
   pub good_built : (o : Operator) (to : Option Place) (from : List Place) (spans : List ℕ) → IsBuilt p.core f o to from spans

@@ -18,7 +18,7 @@ use Rattle.hy_core.specs.Runs.{Interaction, Fetch, Inspect, Perform, Return, app
 use Rattle.hy_core.specs.Operators.{index_in, blanks}
 use Rattle.hy_core.specs.Control.{Form, Numbers, Flags, Tuples, Products, Arrays, Unknown, form, part_type, element_type, blank_of, local_type, Halt, Ends}
 use Rattle.hy_core.specs.Control.{Stuck, NotSet, Control, Setting, stop, key, count_one, with_some, trapped, turn, with_number, with_flag, with_array}
-use Rattle.hy_core.specs.Control.{with_set, with_index, Aim, ToRead, ToWrite, ToDrop, at_unset, at_part, at_element, walk, spot, read, take, write}
+use Rattle.hy_core.specs.Control.{with_set, with_index, Aim, ToRead, ToWrite, ToDrop, at_unset, at_part, at_element, walk, spot, read, write, take_as}
 use Rattle.hy_core.specs.Control.{read_number, read_flag, read_array}
 use Rattle.hy_core.specs.Typing.{all, steps_type, selected_type}
 use Rattle.hy_core.specs.Shaped.{HasForm, IsStep, IsOf}
@@ -270,12 +270,12 @@ module _ (p : Setting) (S : Control → Copies → Type 0) (forms : Key → Form
       let v = get s.path (m.value s.key) in
       good_set p S c v (go c v) m (λ whole. next c m v x h (subst (λ f. Fits p.core.types f v) e (typed_read p.core.types forms n m h s)) whole))
 
-  pub good_take : (place : Place) (u : TyId) (go : Control → Val → Interaction Control) → IsOf p.core f u place
+  pub good_take : (fate : effect.Fate) (place : Place) (u : TyId) (go : Control → Val → Interaction Control) → IsOf p.core f u place
       → ((c : Control) (m : Copies) (v : Val) → Q c → Typed m → Fits p.core.types (form p.core.types u) v → Good S (go c v) m)
-      → (c : Control) (m : Copies) → Q c → Typed m → Good S (take p c place go) m
-  good_take place u go is next = good_spot ToRead place u _ tt is (λ c m s x h lt e.
+      → (c : Control) (m : Copies) → Q c → Typed m → Good S (take_as fate p c place go) m
+  good_take fate place u go is next = good_spot ToRead place u _ tt is (λ c m s x h lt e.
       let v = get s.path (m.value s.key) in
-      good_set p S c v (Perform (effect.Clear s) (go c v)) m
+      good_set p S c v (Perform (effect.Clear s fate) (go c v)) m
       (λ whole. next c _ v x (typed_store p.core.types forms n m h s Unset lt tt)
       (subst (λ f. Fits p.core.types f v) e (typed_read p.core.types forms n m h s))))
 

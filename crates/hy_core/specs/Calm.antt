@@ -68,7 +68,7 @@ pub record MayClose (m : Copies) (k : Key) : Type 0 where
 abbrev pub May : Effect → Copies → Type 0
 May (Store s v) m = MayWrite m s
 May (Change s v) m = MayWrite m s
-May (Clear s) m = MayWrite m s
+May (Clear s fate) m = MayWrite m s
 May (Lend k s way) m = MayLend m k s way
 May (Hand k l) m = MayHand m k l
 May (Close k) m = MayClose m k

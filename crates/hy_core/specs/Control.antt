@@ -15,7 +15,7 @@ use Rattle.hy_core.specs.Values.{Val, Unset, Number, Truth, Tuple, Product, Arra
 use Rattle.hy_core.specs.Values.{Fields, Elements, is_whole}
 use Rattle.hy_core.specs.Memory.{Key, key_eq, Spot, whole}
 use Rattle.hy_core.specs.Operators.{index_in, blanks}
-use Rattle.hy_core.specs.Runs.{Store, Clear, Interaction, Fetch, Inspect, Perform, Return}
+use Rattle.hy_core.specs.Runs.{Fate, Moved, Store, Clear, Interaction, Fetch, Inspect, Perform, Return}
 
 -- TYPES
 
@@ -263,8 +263,11 @@ abbrev pub read : Setting → Control → Place → (Control → Val → Interac
 read p c place go = spot p ToRead c place (λ c s t. Fetch s (λ v. with_set c v (go c v)))
 
 -- the same, and leaves the place unset
+abbrev pub take_as : Fate → Setting → Control → Place → (Control → Val → Interaction Control) → Interaction Control
+take_as fate p c place go = spot p ToRead c place (λ c s t. Fetch s (λ v. with_set c v (Perform (Clear s fate) (go c v))))
+
 abbrev pub take : Setting → Control → Place → (Control → Val → Interaction Control) → Interaction Control
-take p c place go = spot p ToRead c place (λ c s t. Fetch s (λ v. with_set c v (Perform (Clear s) (go c v))))
+take = take_as Moved
 
 abbrev pub write : Setting → Control → Place → Val → (Control → Interaction Control) → Interaction Control
 write p c place v go = spot p ToWrite c place (λ c s t. Perform (Store s v) (go c))

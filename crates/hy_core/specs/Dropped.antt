@@ -1,11 +1,12 @@
 -- What a core has done by the end of each body: in a checked core everything set was given up, and in a core each array.
 use Rattle.std.specs.Prelude.{◌≡◌, ◌≤◌, ℕ, zero, suc, true, false, None}
-use Rattle.hy_core.specs.Values.{Val, shape, is_blank, holds_array}
+use Rattle.hy_core.specs.Values.{Val, shape, is_blank, holds_array, nests_array}
 use Rattle.hy_core.specs.Control.{Stage, Deinitialises, GivesUp}
 use Rattle.hy_core.specs.Memory.{Key, Copies, copying, no_copies}
 use Rattle.hy_core.specs.Runs.{Effect, Store, Change, Clear, Lend, Hand, Close, Quit, Interaction, Fetch, Inspect, Perform, Return, apply, interpret}
 use Rattle.hy_core.specs.Statements.{interaction, start}
 use Rattle.hy_core.specs.Meaning.{Run, setting}
+use Rattle.hy_core.specs.Runs.{Fate, Moved, Deinitialised, Discarded}
 
 -- what may be left in an owned local: in a core no array, and in a checked core nothing
 abbrev pub IsGivenUp : Stage → Val → Type 0
@@ -17,12 +18,18 @@ pub record IsGone (stage : Stage) (m : Copies) (k : Key) : Type 0 where
   pub closed : m.opened k ≡ None
   pub given_up : IsGivenUp stage (m.value k)
 
--- No statement stores over a set array. Once a `Leave` has taken what it hands out, nothing is left in an owned local, and
--- nothing that the body opened is open.
+-- What is given up has no array with an element that holds an array: giving up an array gives up none inside it.
+abbrev pub LosesNone : Fate → Val → Type 0
+LosesNone Moved v = Unit {0}
+LosesNone Deinitialised v = Unit {0}
+LosesNone Discarded v = nests_array v ≡ false
+
+-- No statement stores over a set array, or gives up an array while one is in it. Once a `Leave` has taken what it hands out,
+-- nothing is left in an owned local, and nothing that the body opened is open.
 abbrev pub Keeps : Stage → Effect → Copies → Type 0
 Keeps stage (Store s v) m = holds_array (copying.read m s) ≡ false
 Keeps stage (Change s v) m = Unit {0}
-Keeps stage (Clear s) m = Unit {0}
+Keeps stage (Clear s fate) m = LosesNone fate (copying.read m s)
 Keeps stage (Lend k s way) m = Unit {0}
 Keeps stage (Hand k l) m = Unit {0}
 Keeps stage (Close k) m = Unit {0}

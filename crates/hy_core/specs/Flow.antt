@@ -12,7 +12,7 @@ use Rattle.hy_core.specs.Memory.{Way, Reads, Writes}
 use Rattle.hy_core.specs.Control.{Form, Numbers, Flags, Tuples, Products, Arrays, Unknown, form, parts_of, local_type, Stage, Deinitialises, GivesUp}
 use Rattle.hy_core.specs.Statements.{way}
 use Rattle.hy_core.specs.Shaped.{filled_by}
-use Rattle.hy_core.specs.Typing.{Among, all, type_at, place_type, IsLeaf, IsArrayAt, still, still_type}
+use Rattle.hy_core.specs.Typing.{Among, all, place_type, IsLeaf, IsArrayAt, IsNestedAt, still, still_type}
 
 -- WHAT IS SET
 
@@ -419,14 +419,10 @@ module _ (x : Context) where
   Onto None P = ⊥
   Onto (Some to) P = P to
 
-  -- an array whose elements hold arrays
-  abbrev pub IsNestedAt : TyId → Path → Type 0
-  IsNestedAt t q = (u e : TyId) × (type_at x.core.types (Some t) q ≡ Some u) × (form x.core.types u ≡ Arrays e)
-      × ((r : Path) × IsArrayAt x.core.types e r)
-
-  -- each such array in the place has no element
+  -- each array in the place whose elements hold arrays has no element
   abbrev pub HasNoElements : FlowState → Place → Type 0
-  HasNoElements g p = (t : TyId) → place_type x.core.types x.fun p ≡ Some t → (q : Path) → IsNestedAt t q → still_map g p q ≡ IsEmpty
+  HasNoElements g p =
+      (t : TyId) → place_type x.core.types x.fun p ≡ Some t → (q : Path) → IsNestedAt x.core.types t q → still_map g p q ≡ IsEmpty
 
   -- OPENING AND CLOSING
 

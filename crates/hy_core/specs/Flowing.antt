@@ -6,10 +6,11 @@ use Rattle.hy_core.specs.Plain.{Writes, Fun, Core}
 use Rattle.hy_core.specs.Control.{Stage, Deinitialises, GivesUp}
 use Rattle.hy_core.specs.FlowOf.{has_flow}
 use Rattle.hy_core.specs.Notation.{of, item, push, stmts, print, compute, tell, int, inout_of, set_of, unit}
-use Rattle.hy_core.specs.Notation.{number, truth, numbers, rows, numbers_for, fun, ramp, main, core}
+use Rattle.hy_core.specs.Notation.{number, truth, numbers, rows, numbers_for, fun, ramp, main, core, checked, done}
 use Rattle.hy_core.specs.Examples as calm
-use Rattle.hy_core.specs.Examples.{leave}
+use Rattle.hy_core.specs.Examples.{leave, Shows}
 use Rattle.hy_core.specs.Differences as wild
+use Rattle.hy_core.specs.Dropped.{IsDroppedRun}
 
 abbrev pub Flows : Stage → Core → Type 0
 Flows stage core = has_flow stage core ≡ true
@@ -240,11 +241,14 @@ abbrev pub rows_freed : List Stmt
 rows_freed = While (stmts (tell Count 2 (of 8 ∷ []) ∷ tell Lt 9 (of 1 ∷ of 2 ∷ []) ∷ Drop (of 2) ∷ [])) 9
     (stmts (Drop (of 9) ∷ compute Pop 7 (of 8 ∷ []) ∷ Built FreeArray None (of 7 ∷ []) [] ∷ [])) ∷ Drop (of 9) ∷ []
 
--- the rows in turn: each is swapped with the last one, which is taken out
+-- the rows in turn: their number is printed, and the first is swapped with the last one, which is taken out
+abbrev pub rows_loop : Stmt
+rows_loop = While (stmts (tell Count 2 (of 8 ∷ []) ∷ tell Lt 9 (of 1 ∷ of 2 ∷ []) ∷ [])) 9
+    (stmts (print (of 2) ∷ int 3 1 ∷ compute Sub 2 (of 2 ∷ of 3 ∷ []) ∷ Built Swap None (of 8 ∷ of 1 ∷ of 2 ∷ []) (0 ∷ 0 ∷ []) ∷ compute Pop 7 (of 8 ∷ [])
+    ∷ Built FreeArray None (of 7 ∷ []) [] ∷ Drop (of 3) ∷ Drop (of 2) ∷ Drop (of 9) ∷ []))
+
 abbrev pub rows_swapped_out : List Stmt
-rows_swapped_out = While (stmts (tell Count 2 (of 8 ∷ []) ∷ tell Lt 9 (of 1 ∷ of 2 ∷ []) ∷ [])) 9
-    (stmts (int 3 1 ∷ compute Sub 2 (of 2 ∷ of 3 ∷ []) ∷ Built Swap None (of 8 ∷ of 1 ∷ of 2 ∷ []) (0 ∷ 0 ∷ []) ∷ compute Pop 7 (of 8 ∷ [])
-    ∷ Built FreeArray None (of 7 ∷ []) [] ∷ Drop (of 3) ∷ Drop (of 2) ∷ Drop (of 9) ∷ [])) ∷ Drop (of 9) ∷ Drop (of 2) ∷ []
+rows_swapped_out = rows_loop ∷ Drop (of 9) ∷ Drop (of 2) ∷ []
 
 abbrev pub freed_with_rows : Core
 freed_with_rows = with_rows (two_rows ++ Built FreeArray None (of 8 ∷ []) [] ∷ [])
@@ -280,8 +284,8 @@ freed_where_some = with_rows (two_rows ++ (tell Count 2 (of 8 ∷ []) ∷ tell L
     ∷ If 9 (stmts (Drop (of 9) ∷ Built FreeArray None (of 8 ∷ []) [] ∷ [])) (stmts (Drop (of 9) ∷ Built FreeArray None (of 8 ∷ []) [] ∷ [])) ∷ []))
 
 pub record RowsFlow : Type 0 where
-  pub with_rows : FlowsNot freed_with_rows
-  pub dropped_with_rows : FlowsNot dropped_with_rows
+  pub freed : FlowsNot freed_with_rows
+  pub dropped : FlowsNot dropped_with_rows
   pub without : Flows GivesUp freed_without_rows
   pub swapped_out : Flows GivesUp dropped_without_rows
   pub with_one : FlowsNot freed_with_one
@@ -289,6 +293,11 @@ pub record RowsFlow : Type 0 where
   pub counted : Flows GivesUp only_counted
   pub where_none : Flows GivesUp freed_where_none
   pub where_some : FlowsNot freed_where_some
+  -- a run that frees or drops one with rows in it loses them
+  pub freed_loses : IsDroppedRun (checked freed_with_rows 9) → ⊥
+  pub dropped_loses : IsDroppedRun (checked dropped_with_rows 9) → ⊥
+  -- what a core that takes them out first shows in either memory
+  pub runs : Shows (checked dropped_without_rows 9) 80 (done (pos 2 ∷ pos 1 ∷ []) 3 0)
 
 pub record DoubtfulFlow : Type 0 where
   pub read : NoFlow Deinitialises read_doubtful

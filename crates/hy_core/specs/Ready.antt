@@ -27,7 +27,7 @@ FlowAgrees = (r : Run) → Shaped r.core → HasFlow r.stage r.core → (report 
     × (LendsTo r report → CopiesTo r report)
 
 -- A core that has a flow has given up what it owns by the end of each body: a checked one all that is set, one whose `Drop`
--- deinitialises each array.
+-- deinitialises each array. It gives up no array with an element that holds an array.
 abbrev pub FlowIsDropped : Type 0
 FlowIsDropped = (r : Run) → Shaped r.core → HasFlow r.stage r.core → IsDroppedRun r
 

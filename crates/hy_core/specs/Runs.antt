@@ -3,13 +3,19 @@ use Rattle.std.specs.Prelude.{ℕ, zero, suc}
 use Rattle.hy_core.specs.Values.{Val, Unset, Shape, shape}
 use Rattle.hy_core.specs.Memory.{Key, Spot, Way, Memory}
 
+-- What becomes of the value of a place that is left unset: it goes elsewhere, was deinitialised where it stands, or is given up.
+pub data Fate : Type 0 where
+  Moved : Fate
+  Deinitialised : Fate
+  Discarded : Fate
+
 -- What a control does to a memory. Three stores are distinguished: of what a statement gives (`Store`), of an array that is
 -- changed where it stands (`Change`), and of what leaves a place unset (`Clear`). `Quit` does nothing: an activation that
 -- has that many lent locals is about to end.
 pub data Effect : Type 0 where
   Store : Spot → Val → Effect
   Change : Spot → Val → Effect
-  Clear : Spot → Effect
+  Clear : Spot → Fate → Effect
   Lend : Key → Spot → Way → Effect
   Hand : (to from : Key) → Effect
   Close : Key → Effect
@@ -26,7 +32,7 @@ pub data Interaction (C : Type 0) : Type 0 where
 abbrev pub apply : {M : Type 0} → Memory M → Effect → M → M
 apply r (Store s v) m = r.store m s v
 apply r (Change s v) m = r.store m s v
-apply r (Clear s) m = r.store m s Unset
+apply r (Clear s fate) m = r.store m s Unset
 apply r (Lend k s way) m = r.lend m k s way
 apply r (Hand k l) m = r.hand m k l
 apply r (Close k) m = r.close m k

@@ -20,7 +20,7 @@ use Rattle.hy_core.specs.Runs.{Interaction, Fetch, Inspect, Perform, Return}
 use Rattle.hy_core.specs.Control.{Form, Numbers, Flags, Tuples, Products, Arrays, Unknown, form, Deed, Body, EachOf, Element, Task, Do, Value, PartsOf}
 use Rattle.hy_core.specs.Control.{Unsets, Work, Idle, Rest, Loop, Test, Drops, Dest, Opens, Nowhere, Activation, Nap, Halt, Ends, Stuck, NotSet, NotOpened}
 use Rattle.hy_core.specs.Control.{Control, Stage, Deinitialises, GivesUp, Setting, stop, with_work, key, count_one, with_some, trapped, turn, with_number}
-use Rattle.hy_core.specs.Control.{with_flag, with_array, with_set, with_index, Aim, ToRead, ToWrite, ToDrop, spot, read, take, write, read_number}
+use Rattle.hy_core.specs.Control.{with_flag, with_array, with_set, with_index, Aim, ToRead, ToWrite, ToDrop, spot, read, take, take_as, write, read_number}
 use Rattle.hy_core.specs.Control.{read_flag, read_array, sleeper_of, wake}
 use Rattle.hy_core.specs.Control as control
 
@@ -102,7 +102,7 @@ built p c Push to from spans =
 built p c Pop to from spans = with_one c from (λ array. with_one c spans (λ s. read_array p c array (λ c at vs. pop p c to s at vs)))
 built p c Swap to from spans = with_three c from (λ array a b. with_two c spans (λ s t. swap p c array a b s t))
 built p c Count to from spans = with_one c from (λ array. read_array p c array (λ c at vs. store_to p c to (Number Int (pos (many vs)))))
-built p c FreeArray to from spans = with_one c from (λ array. read_array p c array (λ c at vs. Perform (effect.Clear at) (Return c)))
+built p c FreeArray to from spans = with_one c from (λ array. read_array p c array (λ c at vs. Perform (effect.Clear at effect.Discarded) (Return c)))
 built p c Print to from spans = with_one c from (λ a. read p c a (λ c v. prints c (line_of v)))
 built p c Read to from spans = with_one c spans (λ s. reads p c to s (read_line p.cut c.input))
 built p c Check to from spans =
@@ -314,7 +314,7 @@ first_deed p c w (d ∷ ds) ts t = does_deed p c w d (doing ds ts)
 -- leaves a place unset, where something is set in it
 abbrev pub clears : Spot → (blank : Bool) → Interaction Control → Interaction Control
 clears s true t = t
-clears s false t = Perform (effect.Clear s) t
+clears s false t = Perform (effect.Clear s effect.Deinitialised) t
 
 -- goes on with a deinitialisation up to its next turn
 abbrev pub does_tasks : Setting → Control → Work → List Task → Interaction Control
@@ -326,7 +326,7 @@ does_tasks p c w (Unsets s ∷ ts) = Fetch s (λ v. clears s (is_blank v) (does_
 
 abbrev pub drop : Setting → Stage → Control → Place → Interaction Control
 drop p Deinitialises c place = spot p ToDrop c place (λ c s t. Return (with_work c (Drops (Value s ∷ Unsets s ∷ []) c.now.work)))
-drop p GivesUp c place = take p c place (λ c v. Return c)
+drop p GivesUp c place = take_as effect.Discarded p c place (λ c v. Return c)
 
 -- STATEMENTS
 

@@ -51,8 +51,8 @@ pub record ReadyState (p : Setting) (c : Control) (m : Copies) (s : Cells) : Typ
   pub agree : Agree m s
   -- all that the next step asks of the memory, and does to it, is allowed
   pub calm : IsCalm (interaction p c) m
-  -- it stores over no set array; and at a `Leave` that has taken what it hands out, nothing that the body owns is set, and
-  -- nothing that it opened is open
+  -- it stores over no set array, and gives up no array with an element that holds an array; and at a `Leave` that has taken what
+  -- it hands out, nothing that the body owns is set, and nothing that it opened is open
   pub keeps : KeepsAll p.stage (interaction p c) m
 
 pub record AtStep (p : Setting) (x : State Control Copies) (y : State Control Cells) : Type 0 where

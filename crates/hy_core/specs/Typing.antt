@@ -50,6 +50,10 @@ IsLeaf types t q = (u : TyId) × (type_at types (Some t) q ≡ Some u) × (parts
 abbrev pub IsArrayAt : Table → TyId → Path → Type 0
 IsArrayAt types t q = (u e : TyId) × (type_at types (Some t) q ≡ Some u) × (form types u ≡ Arrays e)
 
+-- at that path stands an array whose elements hold arrays
+abbrev pub IsNestedAt : Table → TyId → Path → Type 0
+IsNestedAt types t q = (u e : TyId) × (type_at types (Some t) q ≡ Some u) × (form types u ≡ Arrays e) × ((r : Path) × IsArrayAt types e r)
+
 -- a type is another, or is a part or element of it, at that depth
 abbrev pub IsIn : Table → ℕ → TyId → TyId → Type 0
 IsIn types zero u t = u ≡ t

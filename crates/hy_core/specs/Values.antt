@@ -179,3 +179,17 @@ abbrev mutual
   pub any_array : Vals → Bool
   any_array No = false
   any_array (And v vs) = holds_array v || any_array vs
+
+-- an array in it has an element that holds an array
+abbrev mutual
+  pub nests_array : Val → Bool
+  nests_array Unset = false
+  nests_array (Number t n) = false
+  nests_array (Truth b) = false
+  nests_array (Tuple vs) = any_nests vs
+  nests_array (Product d vs) = any_nests vs
+  nests_array (Array vs) = any_array vs
+
+  pub any_nests : Vals → Bool
+  any_nests No = false
+  any_nests (And v vs) = nests_array v || any_nests vs

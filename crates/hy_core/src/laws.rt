@@ -2,7 +2,7 @@
 
 ghost use Rattle.hy_core.specs.Differences.{Differences};
 ghost use Rattle.hy_core.specs.Examples.{Examples, trap_in_slide};
-ghost use Rattle.hy_core.specs.Flowing.{CalmFlow, DoubtfulFlow, FlawedFlow, MendedFlow, RowsFlow, WildFlow};
+ghost use Rattle.hy_core.specs.Flowing.{CalmFlow, DoubtfulFlow, FlawedFlow, MendedFlow, RowsFlow, WildFlow, dropped_without_rows};
 ghost use Rattle.hy_core.specs.Meaning.{CopyingAndLendingAgree, EveryRunEnds, MeaningsAgree, OneMeaning};
 ghost use Rattle.hy_core.specs.Ready.{Ready};
 
@@ -32,9 +32,11 @@ pub fn examples()
     ensures differ { Differences }
 {}
 
-/// Cores are ready at all: one with a subscript that yields what it is lent, whose slide traps.
+/// Cores are ready at all: one with a subscript that yields what it is lent, whose slide traps; and one that gives up an array of
+/// arrays once each of them is swapped out and freed.
 pub fn a_core_is_ready()
-    ensures { Ready trap_in_slide }
+    ensures slides { Ready trap_in_slide }
+    ensures rows { Ready dropped_without_rows }
 {}
 
 /// The small cores that are calm have a flow, which is computed, and those that are not calm have none. Nor has a core that

@@ -29,7 +29,8 @@ pub fn flow_agrees()
 {}
 
 /// A core that has a flow gives up what it owns: at each `Leave` nothing that the body opened is open, and of an owned local, save
-/// what is handed out, a checked core has nothing set and another no array; and no statement stores over a set array.
+/// what is handed out, a checked core has nothing set and another no array; and no statement stores over a set array, or gives up
+/// an array that has an element which holds an array.
 pub fn flow_is_dropped()
     ensures { FlowIsDropped }
 {}

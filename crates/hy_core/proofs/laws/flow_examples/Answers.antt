@@ -1,6 +1,7 @@
-use Rattle.std.proofs.Common.{refl, zero, suc}
+use Rattle.std.proofs.Common.{◌≡◌, refl, zero, suc, true, false}
 use Rattle.std.specs.Prelude.{ℤ, pos, negsuc}
-use Rattle.hy_core.specs.Flowing.{Operates}
+use Rattle.std.specs.Fmt.{digits}
+use Rattle.hy_core.specs.Flowing.{Operates, RowsFlow}
 use Rattle.hy_core.proofs.laws.flow_examples.Goals as goal
 
 operates : (a b : ℤ) → Operates a b
@@ -112,10 +113,14 @@ returns-clause-doubtful c = record {
   branch = refl;
 }
 
-pub returns-clause-rows : goal.returns-clause-rows
-returns-clause-rows c = record {
-  with_rows = refl;
-  dropped_with_rows = refl;
+lost : true ≡ false → ⊥
+lost e = absurd (cc)
+
+rows : RowsFlow
+unfolding digits
+rows = record {
+  freed = refl;
+  dropped = refl;
   without = refl;
   swapped_out = refl;
   with_one = refl;
@@ -123,4 +128,10 @@ returns-clause-rows c = record {
   counted = refl;
   where_none = refl;
   where_some = refl;
+  freed_loses = λ h. lost ((h 9).1.1.1.1.1.1.1.1.0.0);
+  dropped_loses = λ h. lost ((h 9).1.1.1.1.1.1.1.1.0.0);
+  runs = (refl, refl);
 }
+
+pub returns-clause-rows : goal.returns-clause-rows
+returns-clause-rows c = rows
