@@ -11,13 +11,13 @@ use Rattle.hy_meaning.specs.Forms.{first_of, links_of, printed, main_of}
 use Rattle.hy_front.specs.Phases.{IsTree, Breaks}
 use Rattle.hy_meaning.specs.Meaning.{Value, Env, State, Outcome, Gives, Stops, Flow, Next, Over, fits, checked, operand_value, add_all, eval}
 use Rattle.hy_meaning.specs.Meaning.{print_value, exec, block, then_do, and_then, turn, start, reported, mean}
-use Rattle.hy_driver.specs.declared.reply.Report.{Report}
-use Rattle.hy_driver.specs.Call.{Call, Filed, Streams, Messages, call_of, IsSource, IsInput, IsQuiet}
+use Rattle.hy_driver.specs.Call.{Answer, Call, Filed, Streams, IsSource, IsInput, IsQuiet}
 use Rattle.hy_driver.specs.Course as w
-use Rattle.hy_driver.specs.Course.{Answer, RunMayAnswer, SourceMayAnswer, CallMayAnswer}
-use Rattle.hy_driver.specs.Reply.{IsReported, IsWritten}
+use Rattle.hy_driver.specs.Course.{RunMayAnswer, SourceMayAnswer, CallMayAnswer}
 use Rattle.hy_driver.specs.Headline.{turns, status_of, Means, IsTrap, RefusesTheFirst, RunsAsItMeans, Answers0, Answers1, Answers3, Answers4}
-use Rattle.hy_driver.proofs.Clauses.{written_if_no_fault, SourceCourse, failed, no_memory, went_on, from_source}
+use Rattle.hy_driver.specs.Kept.{cause_status}
+use Rattle.hy_driver.proofs.Clauses as clauses
+use Rattle.hy_driver.proofs.Clauses.{SourceCourse, failed, no_memory, went_on}
 
 -- THE MEANING NEVER ASKS FOR MORE INPUT, since no form that is built reads
 
@@ -83,7 +83,7 @@ not_one_end (end.Trap kind span) h = omega arith
 not_one_end end.Spent h = omega arith
 not_one_end end.Asks h = omega arith
 
-not_one_cause : (by : RunCause) → w.cause_status by ≡ 1 → ⊥
+not_one_cause : (by : RunCause) → cause_status by ≡ 1 → ⊥
 not_one_cause cause.Input h = omega arith
 not_one_cause cause.Output h = omega arith
 not_one_cause cause.NoMemory h = omega arith
@@ -100,15 +100,15 @@ trap_3 (end.Trap kind span) asks h = (kind, span, refl)
 trap_3 end.Spent asks h = absurd (omega arith)
 trap_3 end.Asks asks h = absurd (omega arith)
 
-spent_4 : (e : End) → (e ≡ end.Asks → ⊥) → status_of e ≡ 4 → e ≡ end.Spent
+pub spent_4 : (e : End) → (e ≡ end.Asks → ⊥) → status_of e ≡ 4 → e ≡ end.Spent
 spent_4 end.Done asks h = absurd (omega arith)
 spent_4 (end.Trap kind span) asks h = absurd (omega arith)
 spent_4 end.Spent asks h = refl
 spent_4 end.Asks asks h = absurd (asks refl)
 
-module _ (words : List (List ℕ)) (files_before files_after : Filed) (before after : Streams) (err_before err_after : Messages) (report : Report) where
-  abbrev c : Call
-  c = call_of words files_before files_after before after err_before err_after report
+module _ (words : List (List ℕ)) (files_before files_after : Filed) (before after : Streams) where
+  abbrev c : Answer → Call
+  c it = clauses.c words files_before files_after before after it
 
   tree_followed : (file bytes : List ℕ) (it : Answer) → (it.status ≡ 1 → ⊥) → (it.status ≡ 8 → ⊥) → SourceMayAnswer file bytes before after it
       → (tree : Program) × IsTree bytes tree
@@ -123,66 +123,63 @@ module _ (words : List (List ℕ)) (files_before files_after : Filed) (before af
   tree_from file bytes it not_1 not_8 same (no_memory files idle) = absurd (not_8 refl)
   tree_from file bytes it not_1 not_8 same (went_on files follows) = tree_followed file bytes it not_1 not_8 follows
 
-  module _ (it : Answer) (way : CallMayAnswer words files_before files_after before after it) (says : IsReported it err_before err_after report) where
-    means : (status : ℕ) (Is : End → Type 0) → ((e : End) → (e ≡ end.Asks → ⊥) → status_of e ≡ status → Is e) → (status ≡ 1 → ⊥) → RunsAsItMeans c
-        → (file bytes left : List ℕ) → IsSource c file bytes → IsInput c left → IsQuiet c → report.status ≡ status → Means bytes left Is
+  first_executed : (file bytes : List ℕ) (object : _) (it : Answer) → it.status ≡ 1 → RunMayAnswer file bytes object before after it → ⊥
+  first_executed file bytes object it is (w.ended {ending = ending} run) = not_one_end ending.end is
+  first_executed file bytes object it is (w.ended_without_message run) = omega arith
+  first_executed file bytes object it is (w.cut_off {fault = fault} cut) = not_one_cause fault.cause is
+
+  first_followed : (file bytes : List ℕ) (it : Answer) → it.status ≡ 1 → SourceMayAnswer file bytes before after it → (f : Refusal)
+      × IsFirst (Breaks bytes) (Some f)
+  first_followed file bytes it is (w.refused {f = f} first idle) = (f, first)
+  first_followed file bytes it is (w.not_compiled idle) = absurd (omega arith)
+  first_followed file bytes it is (w.executed {object = object} made executes) = absurd (first_executed file bytes object it is executes)
+
+  first_from : (file bytes : List ℕ) (it : Answer) → it.status ≡ 1 → SourceCourse file bytes files_before files_after before after it
+      → (f : Refusal) × IsFirst (Breaks bytes) (Some f)
+  first_from file bytes it is (failed rose idle) = absurd (omega arith)
+  first_from file bytes it is (no_memory files idle) = absurd (omega arith)
+  first_from file bytes it is (went_on files follows) = first_followed file bytes it is follows
+
+  module _ (it : Answer) (way : CallMayAnswer words files_before files_after before after it) where
+    means : (status : ℕ) (Is : End → Type 0) → ((e : End) → (e ≡ end.Asks → ⊥) → status_of e ≡ status → Is e) → (status ≡ 1 → ⊥) → RunsAsItMeans (c it)
+        → (file bytes left : List ℕ) → IsSource (c it) file bytes → IsInput (c it) left → IsQuiet (c it) → it.status ≡ status → Means bytes left Is
     means status Is forth not_1 runs file bytes left source input quiet is =
-        let written : IsWritten it err_before err_after report = written_if_no_fault says quiet.err in
-        let found = tree_from file bytes it (λ h. not_1 (sym is ∙ (written.status ∙ h))) (λ h. quiet.memory (written.status ∙ h)) quiet.files
-        (from_source words files_before files_after before after err_before err_after report file bytes it source way) in (
+        let found = tree_from file bytes it (λ h. not_1 (sym is ∙ h)) (λ h. quiet.memory h) quiet.files
+        (clauses.from_source words files_before files_after before after file bytes it source way) in (
           found.0,
           found.1,
           forth (mean found.0 left false turns).end (never_asks found.0 left false turns)
               (sym (runs file bytes left found.0 source input quiet found.1).status ∙ is),
         )
 
-    meant : (status : ℕ) (Is : End → Type 0) → ((e : End) → Is e → status_of e ≡ status) → RunsAsItMeans c
-        → (file bytes left : List ℕ) → IsSource c file bytes → IsInput c left → IsQuiet c → Means bytes left Is → report.status ≡ status
+    meant : (status : ℕ) (Is : End → Type 0) → ((e : End) → Is e → status_of e ≡ status) → RunsAsItMeans (c it)
+        → (file bytes left : List ℕ) → IsSource (c it) file bytes → IsInput (c it) left → IsQuiet (c it) → Means bytes left Is → it.status ≡ status
     meant status Is back runs file bytes left source input quiet (tree, is_tree, is) = (runs file bytes left tree source input quiet is_tree).status
         ∙ back (mean tree left false turns).end is
 
-    pub answers_0 : RunsAsItMeans c → Answers0 c
+    pub answers_0 : RunsAsItMeans (c it) → Answers0 (c it)
     answers_0 runs file bytes left source input quiet = (
       means 0 (λ e. e ≡ end.Done) done_0 (λ h. omega arith) runs file bytes left source input quiet,
       meant 0 (λ e. e ≡ end.Done) (λ e h.
           ap status_of h) runs file bytes left source input quiet,
     )
 
-    pub answers_3 : RunsAsItMeans c → Answers3 c
+    pub answers_3 : RunsAsItMeans (c it) → Answers3 (c it)
     answers_3 runs file bytes left source input quiet = (
       means 3 IsTrap trap_3 (λ h. omega arith) runs file bytes left source input quiet,
       meant 3 IsTrap (λ e h. ap status_of h.2) runs file bytes
           left source input quiet,
     )
 
-    pub answers_4 : RunsAsItMeans c → Answers4 c
+    pub answers_4 : RunsAsItMeans (c it) → Answers4 (c it)
     answers_4 runs file bytes left source input quiet = (
       means 4 (λ e. e ≡ end.Spent) spent_4 (λ h. omega arith) runs file bytes left source input quiet,
       meant 4 (λ e. e ≡ end.Spent) (λ e h.
           ap status_of h) runs file bytes left source input quiet,
     )
 
-    first_executed : (file bytes : List ℕ) (object : _) (it : Answer) → it.status ≡ 1 → RunMayAnswer file bytes object before after it → ⊥
-    first_executed file bytes object it is (w.ended {ending = ending} run) = not_one_end ending.end is
-    first_executed file bytes object it is (w.ended_without_message run) = omega arith
-    first_executed file bytes object it is (w.cut_off {fault = fault} cut) = not_one_cause fault.cause is
-
-    first_followed : (file bytes : List ℕ) (it : Answer) → it.status ≡ 1 → SourceMayAnswer file bytes before after it → (f : Refusal)
-        × IsFirst (Breaks bytes) (Some f)
-    first_followed file bytes it is (w.refused {f = f} first idle) = (f, first)
-    first_followed file bytes it is (w.not_compiled idle) = absurd (omega arith)
-    first_followed file bytes it is (w.executed {object = object} made executes) = absurd (first_executed file bytes object it is executes)
-
-    first_from : (file bytes : List ℕ) (it : Answer) → it.status ≡ 1 → SourceCourse file bytes files_before files_after before after it
-        → (f : Refusal) × IsFirst (Breaks bytes) (Some f)
-    first_from file bytes it is (failed rose idle) = absurd (omega arith)
-    first_from file bytes it is (no_memory files idle) = absurd (omega arith)
-    first_from file bytes it is (went_on files follows) = first_followed file bytes it is follows
-
-    pub answers_1 : RefusesTheFirst c → Answers1 c
-    answers_1 refuses file bytes source quiet =
-        let written : IsWritten it err_before err_after report = written_if_no_fault says quiet.err in (
-          (λ is. first_from file bytes it (sym written.status
-              ∙ is) (from_source words files_before files_after before after err_before err_after report file bytes it source way)),
-          (λ (f, first). (refuses file bytes f source quiet first).status),
-        )
+    pub answers_1 : RefusesTheFirst (c it) → Answers1 (c it)
+    answers_1 refuses file bytes source quiet = (
+      (λ is. first_from file bytes it is (clauses.from_source words files_before files_after before after file bytes it source way)),
+      (λ (f, first). (clauses.unless_prevented words files_before files_after before after it _ quiet (refuses file bytes f source first).answer).0),
+    )

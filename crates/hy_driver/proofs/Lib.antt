@@ -8,6 +8,7 @@ mod Extents
 mod Found
 mod Free
 mod Keys
+pub mod Keeping
 mod Known
 mod Grammar
 mod Leads
@@ -15,6 +16,8 @@ mod Named
 pub mod Promised
 mod Extends
 mod Reports
+pub mod Returning
+pub mod Saying
 mod Statuses
 pub mod Writing
 pub mod ThisRun

@@ -1,5 +1,5 @@
 -- The lines of the report.
-use Rattle.std.proofs.Common.{◌≡◌, ◌≢◌, ◌&&◌, ℕ, Bool, true, false, List, [], Option, Some, None, refl, sym, ◌∙◌, ap, subst}
+use Rattle.std.proofs.Common.{◌≡◌, ◌&&◌, ℕ, Bool, true, false, List, [], Option, Some, refl, sym, ◌∙◌, subst}
 use Rattle.std.specs.Prelude.{if◌then◌else◌}
 use Rattle.hy_base.specs.declared.run.Counts.{Counts}
 use Rattle.hy_base.specs.declared.run.End.TheVariants as end
@@ -7,29 +7,20 @@ use Rattle.hy_base.specs.declared.run.RunCause.{RunCause}
 use Rattle.hy_base.specs.declared.run.RunCause.TheVariants as cause
 use Rattle.hy_object.specs.States.{Stop, Ended, Stuck}
 use Rattle.hy_words.specs.declared.words.Options.{Options}
-use Rattle.hy_words.specs.Asked.{Asked, ToRun, ToExec}
+use Rattle.hy_words.specs.Asked.{Asked, ToExec}
 use Rattle.hy_words.specs.Commands.{command_of}
-use Rattle.hy_driver.specs.Call.{Filed, Streams}
+use Rattle.hy_driver.specs.Call.{Answer, Filed, Streams}
 use Rattle.hy_driver.specs.Course as w
-use Rattle.hy_driver.specs.Course.{Answer, RunMayAnswer, FileMayAnswer, SourceMayAnswer, CallMayAnswer}
-use Rattle.hy_driver.specs.Executed.{status_of_stop, lines_of}
-use Rattle.hy_driver.specs.Headline.{asks_report, is_reported, lines_due}
+use Rattle.hy_driver.specs.Course.{RunMayAnswer, FileMayAnswer, SourceMayAnswer, CallMayAnswer}
+use Rattle.hy_driver.specs.Executed.{lines_of}
+use Rattle.hy_driver.specs.Kept.{status_of_stop, cause_status}
+use Rattle.hy_driver.specs.Outside.{is_reported, lines_due}
 use Rattle.hy_driver.specs.Texts.{report_lines}
 
 -- there are none where none are asked for
 not_asked : (b : Bool) (lines : List ℕ) → [] ≡ (if b && false then lines else [])
 not_asked true lines = refl
 not_asked false lines = refl
-
-both : (b other : Bool) (lines : List ℕ) → (if b && other then lines else []) ≢ [] → other ≡ true
-both true true lines some = refl
-both true false lines some = absurd (some refl)
-both false other lines some = absurd (some refl)
-
--- where there are lines, they were asked for
-pub asked_for : (words : List (List ℕ)) (status : ℕ) (counts : Counts) (lines : List ℕ) → lines ≡ lines_due (command_of words) status counts
-    → lines ≢ [] → asks_report (command_of words) ≡ true
-asked_for words status counts lines is some = both (is_reported status) (asks_report (command_of words)) (report_lines counts) (λ none. some (is ∙ none))
 
 stop_lines : (report : Bool) (stop : Stop) (counts : Counts)
     → lines_of report counts ≡ (if is_reported (status_of_stop stop) && report then report_lines counts else [])
@@ -39,7 +30,7 @@ stop_lines report (Ended end.Spent) counts = refl
 stop_lines report (Ended end.Asks) counts = refl
 stop_lines report (Stuck why at) counts = refl
 
-cause_lines : (asked : Option Asked) (by : RunCause) (counts : Counts) → [] ≡ lines_due asked (w.cause_status by) counts
+cause_lines : (asked : Option Asked) (by : RunCause) (counts : Counts) → [] ≡ lines_due asked (cause_status by) counts
 cause_lines asked cause.Input counts = refl
 cause_lines asked cause.Output counts = refl
 cause_lines asked cause.NoMemory counts = refl

@@ -8,10 +8,11 @@ use Rattle.hy_object.specs.declared.object.Object.{Object}
 use Rattle.hy_words.specs.declared.words.Options.{Options}
 use Rattle.hy_words.specs.Asked.{ToExec}
 use Rattle.hy_words.specs.Commands.{command_of}
-use Rattle.hy_driver.specs.Call.{Filed, Streams}
+use Rattle.hy_driver.specs.Call.{Answer, Filed, Streams}
 use Rattle.hy_driver.specs.Course as w
-use Rattle.hy_driver.specs.Course.{Answer, RunMayAnswer, SourceMayAnswer, CallMayAnswer}
+use Rattle.hy_driver.specs.Course.{RunMayAnswer, SourceMayAnswer, CallMayAnswer}
 use Rattle.hy_driver.specs.Headline.{status_of}
+use Rattle.hy_driver.specs.Kept.{cause_status}
 
 low_end : (e : End) → status_of e ≤ 8
 low_end end.Done = omega arith
@@ -19,7 +20,7 @@ low_end (end.Trap kind span) = omega arith
 low_end end.Spent = omega arith
 low_end end.Asks = omega arith
 
-low_cause : (by : RunCause) → w.cause_status by ≤ 8
+low_cause : (by : RunCause) → cause_status by ≤ 8
 low_cause cause.Input = omega arith
 low_cause cause.Output = omega arith
 low_cause cause.NoMemory = omega arith

@@ -16,16 +16,15 @@ use Rattle.hy_object.specs.declared.object.Object.{Object}
 use Rattle.hy_object.specs.Bytes.{bytes_of}
 use Rattle.hy_object.specs.Runs.{Runs, OneRun, WritesBeginnings}
 use Rattle.hy_object.specs.States.{Ended}
-use Rattle.hy_runs.specs.Runs.{Told, Appends, IsTaken, IsCutOffAt, CutOffBy, CountsCause}
-use Rattle.hy_driver.specs.declared.reply.Report as top
-use Rattle.hy_driver.specs.Call.{Call, Filed, Streams, Messages, call_of, IsInput, IsQuiet}
+use Rattle.hy_runs.specs.Runs.{Appends, IsTaken, IsCutOffAt, CutOffBy}
+use Rattle.hy_driver.specs.Call.{Answer, Call, Filed, Streams, IsInput, IsQuiet}
 use Rattle.hy_driver.specs.Compiled.{IsCompiled, Agrees}
 use Rattle.hy_driver.specs.Course as w
-use Rattle.hy_driver.specs.Course.{Answer, IsIdle, IsObjectOf, IsRun, IsCut, RunMayAnswer, SourceMayAnswer, CallMayAnswer}
-use Rattle.hy_driver.specs.Reply.{IsReported, IsWritten}
-use Rattle.hy_driver.specs.Executed.{told_of, faults_of}
+use Rattle.hy_driver.specs.Course.{IsRun, RunMayAnswer, SourceMayAnswer, CallMayAnswer}
 use Rattle.hy_driver.specs.Headline.{turns, status_of, end_message, IsRunOf, RunsAsItMeans, WritesABeginning}
-use Rattle.hy_driver.proofs.Clauses.{OneTree, SourceCourse, failed, no_memory, went_on, from_source, written_if_no_fault}
+use Rattle.hy_driver.specs.Kept.{told_of}
+use Rattle.hy_driver.proofs.Clauses as clauses
+use Rattle.hy_driver.proofs.Clauses.{OneTree, SourceCourse, failed, no_memory, went_on}
 
 pub ended_is : {e f : End} → Ended e ≡ Ended f → e ≡ f
 ended_is e = cc
@@ -43,16 +42,16 @@ nothing_out : (before after : Option (List ℕ)) (all : List ℕ) → after ≡ 
 nothing_out None after all same = (zero, subst (λ a. StillTells None a (Appends (take zero all))) (sym same) tt)
 nothing_out (Some told) after all same = (zero, subst (λ a. StillTells (Some told) a (Appends (take zero all))) (sym same) (sym (append-nil told)))
 
-module _ (words : List (List ℕ)) (files_before files_after : Filed) (before after : Streams) (err_before err_after : Messages) (report : top.Report)
+module _ (words : List (List ℕ)) (files_before files_after : Filed) (before after : Streams)
     (one_tree : OneTree) (one_run : OneRun) (writes_beginnings : WritesBeginnings) where
-  abbrev c : Call
-  c = call_of words files_before files_after before after err_before err_after report
+  abbrev c : Answer → Call
+  c it = clauses.c words files_before files_after before after it
 
   -- what a run of the object is, by the meaning
-  is_run_of : (file bytes left : List ℕ) (tree : Program) (object : Object) (ending : Ending) → IsCompiled tree object → IsInput c left
-      → IsRun object before after ending
-      → IsWritten (w.ended_answer file bytes (bytes_of object) ending) err_before err_after report → IsRunOf c file bytes left tree
-  is_run_of file bytes left tree object ending made input run written =
+  is_run_of : (file bytes left : List ℕ) (tree : Program) (object : Object) (ending : Ending) → IsCompiled tree object
+      → IsInput (c (w.ended_answer file bytes (bytes_of object) ending)) left
+      → IsRun object before after ending → IsRunOf (c (w.ended_answer file bytes (bytes_of object) ending)) file bytes left tree
+  is_run_of file bytes left tree object ending made input run =
       let ran = run.stopped.ran in
       let same_input : ran.input ≡ left = input_is ran.input left ran.run.taken input.old input.new before.input after.input input.told input.still
       input.left_of_it ran.taken in
@@ -63,59 +62,48 @@ module _ (words : List (List ℕ)) (files_before files_after : Filed) (before af
       let end_is : ending.end ≡ (mean tree left false turns).end = ended_is (sym ran.stopped ∙ agrees.stop) in
       record {
         object = object;
-        bytes_are = written.object;
+        bytes_are = refl;
         run = ran.run;
         runs = runs;
-        counts = written.counts ∙ sym ran.same_counts;
-        status = written.status ∙ ap status_of end_is;
+        counts = sym ran.same_counts;
+        status = ap status_of end_is;
+        message = ap (end_message file bytes) end_is;
         output = subst (λ o. StillTells before.out after.out (Appends o)) agrees.output ran.output;
         taken = subst (λ t. StillTells before.input after.input (IsTaken left t)) agrees.taken
             (subst (λ i. StillTells before.input after.input (IsTaken i ran.run.taken)) same_input ran.taken);
-        message = subst (λ e. StillTells err_before.told err_after.told (Appends (end_message file bytes e))) end_is written.told;
       }
 
-  not_cut : (old : RunCause) (fault : RunFault) → fault.cause ≡ old → IsQuiet c → CountsCause old (faults_of before) (faults_of after)
-      → report.status ≡ w.cause_status old → ⊥
-  not_cut cause.Input fault is quiet rose status = let same = quiet.input in let r = rose.0 in omega (arith, r, same)
-  not_cut cause.Output fault is quiet rose status = let same = quiet.out in let r = rose.1 in omega (arith, r, same)
-  not_cut cause.NoMemory fault is quiet rose status = quiet.memory status
+  executes_as : (file bytes left : List ℕ) (tree : Program) (object : Object) (it : Answer) → IsCompiled tree object → IsInput (c it) left → IsQuiet (c it)
+      → RunMayAnswer file bytes object before after it → IsRunOf (c it) file bytes left tree
+  executes_as file bytes left tree object it made input quiet (w.ended {ending = ending} run) =
+      is_run_of file bytes left tree object ending made input run
+  executes_as file bytes left tree object it made input quiet (w.ended_without_message run) = absurd (quiet.memory refl)
+  executes_as file bytes left tree object it made input quiet (w.cut_off {fault = fault} cut) =
+      absurd (clauses.not_cut words files_before files_after before after fault.cause it quiet cut.cut_short.faults refl)
 
-  executes_as : (file bytes left : List ℕ) (tree : Program) (object : Object) (it : Answer) → IsCompiled tree object → IsInput c left → IsQuiet c
-      → IsWritten it err_before err_after report
-      → RunMayAnswer file bytes object before after it → IsRunOf c file bytes left tree
-  executes_as file bytes left tree object it made input quiet written (w.ended {ending = ending} run) =
-      is_run_of file bytes left tree object ending made input run written
-  executes_as file bytes left tree object it made input quiet written (w.ended_without_message run) = absurd (quiet.memory written.status)
-  executes_as file bytes left tree object it made input quiet written (w.cut_off {fault = fault} cut) =
-      absurd (not_cut fault.cause fault refl quiet cut.cut_short.faults written.status)
+  follows_as : (file bytes left : List ℕ) (tree : Program) (it : Answer) → IsTree bytes tree → IsInput (c it) left → IsQuiet (c it)
+      → SourceMayAnswer file bytes before after it → IsRunOf (c it) file bytes left tree
+  follows_as file bytes left tree it is input quiet (w.refused {f = f} first idle) = absurd (is.sound f first.0)
+  follows_as file bytes left tree it is input quiet (w.not_compiled idle) = absurd (quiet.memory refl)
+  follows_as file bytes left tree it is input quiet (w.executed {tree = other} {object = object} made executes) =
+      executes_as file bytes left tree object it (clauses.compiled words files_before files_after before after one_tree bytes tree other object is made)
+      input quiet executes
 
-  follows_as : (file bytes left : List ℕ) (tree : Program) (it : Answer) → IsTree bytes tree → IsInput c left → IsQuiet c
-      → IsWritten it err_before err_after report
-      → SourceMayAnswer file bytes before after it → IsRunOf c file bytes left tree
-  follows_as file bytes left tree it is input quiet written (w.refused {f = f} first idle) = absurd (is.sound f first.0)
-  follows_as file bytes left tree it is input quiet written (w.not_compiled idle) = absurd (quiet.memory written.status)
-  follows_as file bytes left tree it is input quiet written (w.executed {tree = other} {object = object} made executes) =
-      executes_as file bytes left tree object it (subst (λ t. IsCompiled t object) (one_tree bytes other tree made.tree_of_it is) made.compiled) input
-      quiet written executes
+  from_as : (file bytes left : List ℕ) (tree : Program) (it : Answer) → IsTree bytes tree → IsInput (c it) left → IsQuiet (c it)
+      → SourceCourse file bytes files_before files_after before after it → IsRunOf (c it) file bytes left tree
+  from_as file bytes left tree it is input quiet (failed rose idle) = let same = quiet.files in absurd (omega (arith, rose, same))
+  from_as file bytes left tree it is input quiet (no_memory same idle) = absurd (quiet.memory refl)
+  from_as file bytes left tree it is input quiet (went_on same follows) = follows_as file bytes left tree it is input quiet follows
 
-  from_as : (file bytes left : List ℕ) (tree : Program) (it : Answer) → IsTree bytes tree → IsInput c left → IsQuiet c
-      → IsWritten it err_before err_after report
-      → SourceCourse file bytes files_before files_after before after it → IsRunOf c file bytes left tree
-  from_as file bytes left tree it is input quiet written (failed rose idle) = let same = quiet.files in absurd (omega (arith, rose, same))
-  from_as file bytes left tree it is input quiet written (no_memory same idle) = absurd (quiet.memory written.status)
-  from_as file bytes left tree it is input quiet written (went_on same follows) = follows_as file bytes left tree it is input quiet written follows
-
-  pub runs_as_it_means : (it : Answer) → CallMayAnswer words files_before files_after before after it → IsReported it err_before err_after report
-      → RunsAsItMeans c
-  runs_as_it_means it way says file bytes left tree source input quiet is =
-      from_as file bytes left tree it is input quiet (written_if_no_fault says quiet.err)
-      (from_source words files_before files_after before after err_before err_after report file bytes it source way)
+  pub runs_as_it_means : (it : Answer) → CallMayAnswer words files_before files_after before after it → RunsAsItMeans (c it)
+  runs_as_it_means it way file bytes left tree source input quiet is =
+      from_as file bytes left tree it is input quiet (clauses.from_source words files_before files_after before after file bytes it source way)
 
   -- AFTER A FAULT
 
-  all_out : (left : List ℕ) (tree : Program) (object : Object) (ending : Ending) → IsCompiled tree object → IsInput c left → IsRun object before after ending
+  all_out : (it : Answer) (left : List ℕ) (tree : Program) (object : Object) (ending : Ending) → IsCompiled tree object → IsInput (c it) left → IsRun object before after ending
       → (n : ℕ) × StillTells before.out after.out (Appends (take n (mean tree left false turns).output))
-  all_out left tree object ending made input run =
+  all_out it left tree object ending made input run =
       let ran = run.stopped.ran in
       let same_input : ran.input ≡ left = input_is ran.input left ran.run.taken input.old input.new before.input after.input input.told input.still
       input.left_of_it ran.taken in
@@ -126,10 +114,10 @@ module _ (words : List (List ℕ)) (files_before files_after : Filed) (before af
       let all = (mean tree left false turns).output in
       (length all, subst (λ o. StillTells before.out after.out (Appends o)) (output ∙ sym (take-length all)) ran.output)
 
-  cut_out : (left : List ℕ) (tree : Program) (object : Object) (fault : RunFault) → IsCompiled tree object → IsInput c left
+  cut_out : (it : Answer) (left : List ℕ) (tree : Program) (object : Object) (fault : RunFault) → IsCompiled tree object → IsInput (c it) left
       → IsCutOffAt object turns (told_of before) (told_of after) fault → (n : ℕ)
       × StillTells before.out after.out (Appends (take n (mean tree left false turns).output))
-  cut_out left tree object fault made input cut =
+  cut_out it left tree object fault made input cut =
       let same_input : cut.input ≡ left = input_is cut.input left _ input.old input.new before.input after.input input.told input.still
       input.left_of_it cut.taken in
       let asked = made.same cut.input false turns (lit≤ tt) in
@@ -138,37 +126,37 @@ module _ (words : List (List ℕ)) (files_before files_after : Filed) (before af
       (begins.0, subst (λ o. StillTells before.out after.out (Appends o)) (begins.1 ∙ ap (λ o. take begins.0 o) output) cut.output)
 
   -- it was not cut off by the input
-  cut_by : (left : List ℕ) (tree : Program) (object : Object) (fault : RunFault) → IsCompiled tree object → IsInput c left
+  cut_by : (it : Answer) (left : List ℕ) (tree : Program) (object : Object) (fault : RunFault) → IsCompiled tree object → IsInput (c it) left
       → (by : RunCause) → by ≢ cause.Input → CutOffBy by object turns (told_of before) (told_of after) fault → (n : ℕ)
       × StillTells before.out after.out (Appends (take n (mean tree left false turns).output))
-  cut_by left tree object fault made input cause.Input not_input cut = absurd (not_input refl)
-  cut_by left tree object fault made input cause.Output not_input cut = cut_out left tree object fault made input cut
-  cut_by left tree object fault made input cause.NoMemory not_input (inl at) = cut_out left tree object fault made input at
-  cut_by left tree object fault made input cause.NoMemory not_input (inr off) = nothing_out before.out after.out (mean tree left false turns).output off.output
+  cut_by it left tree object fault made input cause.Input not_input cut = absurd (not_input refl)
+  cut_by it left tree object fault made input cause.Output not_input cut = cut_out it left tree object fault made input cut
+  cut_by it left tree object fault made input cause.NoMemory not_input (inl at) = cut_out it left tree object fault made input at
+  cut_by it left tree object fault made input cause.NoMemory not_input (inr off) = nothing_out before.out after.out (mean tree left false turns).output off.output
 
-  executes_out : (file bytes left : List ℕ) (tree : Program) (object : Object) (it : Answer) → IsCompiled tree object → IsInput c left
+  executes_out : (file bytes left : List ℕ) (tree : Program) (object : Object) (it : Answer) → IsCompiled tree object → IsInput (c it) left
       → RunMayAnswer file bytes object before after it
       → (n : ℕ) × StillTells before.out after.out (Appends (take n (mean tree left false turns).output))
-  executes_out file bytes left tree object it made input (w.ended {ending = ending} run) = all_out left tree object ending made input run
-  executes_out file bytes left tree object it made input (w.ended_without_message {ending = ending} run) = all_out left tree object ending made input run
+  executes_out file bytes left tree object it made input (w.ended {ending = ending} run) = all_out it left tree object ending made input run
+  executes_out file bytes left tree object it made input (w.ended_without_message {ending = ending} run) = all_out it left tree object ending made input run
   executes_out file bytes left tree object it made input (w.cut_off {fault = fault} cut) =
-      cut_by left tree object fault made input fault.cause cut.no_input cut.cut_short.cut
+      cut_by it left tree object fault made input fault.cause cut.no_input cut.cut_short.cut
 
-  follows_out : (file bytes left : List ℕ) (tree : Program) (it : Answer) → IsTree bytes tree → IsInput c left → SourceMayAnswer file bytes before after it
+  follows_out : (file bytes left : List ℕ) (tree : Program) (it : Answer) → IsTree bytes tree → IsInput (c it) left → SourceMayAnswer file bytes before after it
       → (n : ℕ) × StillTells before.out after.out (Appends (take n (mean tree left false turns).output))
   follows_out file bytes left tree it is input (w.refused first idle) = nothing_out before.out after.out (mean tree left false turns).output idle.out
   follows_out file bytes left tree it is input (w.not_compiled idle) = nothing_out before.out after.out (mean tree left false turns).output idle.out
   follows_out file bytes left tree it is input (w.executed {tree = other} {object = object} made executes) =
-      executes_out file bytes left tree object it (subst (λ t. IsCompiled t object) (one_tree bytes other tree made.tree_of_it is) made.compiled)
+      executes_out file bytes left tree object it (clauses.compiled words files_before files_after before after one_tree bytes tree other object is made)
       input executes
 
-  from_out : (file bytes left : List ℕ) (tree : Program) (it : Answer) → IsTree bytes tree → IsInput c left
+  from_out : (file bytes left : List ℕ) (tree : Program) (it : Answer) → IsTree bytes tree → IsInput (c it) left
       → SourceCourse file bytes files_before files_after before after it
       → (n : ℕ) × StillTells before.out after.out (Appends (take n (mean tree left false turns).output))
   from_out file bytes left tree it is input (failed rose idle) = nothing_out before.out after.out (mean tree left false turns).output idle.out
   from_out file bytes left tree it is input (no_memory same idle) = nothing_out before.out after.out (mean tree left false turns).output idle.out
   from_out file bytes left tree it is input (went_on same follows) = follows_out file bytes left tree it is input follows
 
-  pub writes_a_beginning : (it : Answer) → CallMayAnswer words files_before files_after before after it → WritesABeginning c
+  pub writes_a_beginning : (it : Answer) → CallMayAnswer words files_before files_after before after it → WritesABeginning (c it)
   writes_a_beginning it way file bytes left tree source input is =
-      from_out file bytes left tree it is input (from_source words files_before files_after before after err_before err_after report file bytes it source way)
+      from_out file bytes left tree it is input (clauses.from_source words files_before files_after before after file bytes it source way)

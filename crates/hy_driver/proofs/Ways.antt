@@ -8,10 +8,12 @@ use Rattle.hy_base.specs.First.{Refusal, IsFirst}
 use Rattle.hy_front.specs.Phases.{Breaks}
 use Rattle.hy_object.specs.Bytes.{bytes_of}
 use Rattle.hy_driver.specs.declared.top.CompiledSource.{CompiledSource}
-use Rattle.hy_driver.specs.Call.{Filed, Streams}
+use Rattle.hy_driver.specs.Call.{Answer, Filed, Streams}
 use Rattle.hy_driver.specs.Course as w
-use Rattle.hy_driver.specs.Course.{Answer, answer, bare, ended_answer, IsEither, IsIdle, IsRun, IsCut, IsStopped, IsCutShort, RunMayAnswer}
-use Rattle.hy_driver.specs.Course.{FileMayAnswer, stopped_answer, SourceMayAnswer, CallMayAnswer, cause_status, cause_message}
+use Rattle.hy_driver.specs.Course.{answer, bare, ended_answer, IsEither, IsRun, IsCut, IsStopped, IsCutShort, RunMayAnswer}
+use Rattle.hy_driver.specs.Course.{FileMayAnswer, stopped_answer, SourceMayAnswer, CallMayAnswer, cause_message}
+use Rattle.hy_driver.specs.Kept.{cause_status}
+use Rattle.hy_driver.specs.Outside.{IsIdle}
 use Rattle.hy_driver.specs.Reply.{IsCompiledFrom}
 use Rattle.hy_driver.specs.Executed.{IsFileOf, IsBadFile}
 use Rattle.hy_driver.specs.Texts.{out_of_memory, refusal_message, bad_object_message}

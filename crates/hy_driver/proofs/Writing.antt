@@ -7,8 +7,8 @@ use Rattle.hy_base.specs.Outside.{faults_after, StillTells}
 use Rattle.hy_base.specs.Streams.{Puts}
 use Rattle.hy_runs.specs.Runs.{Appends}
 use Rattle.hy_driver.specs.Call.{Messages, messages}
-use Rattle.hy_driver.specs.Reply.{AppendsPrefix, AppendsThenPrefix, AppendsPrefixThen, FailsToWrite, at_message, at_lines, at_lines_alone, at_both}
-use Rattle.hy_driver.specs.Headline.{with_lines}
+use Rattle.hy_driver.specs.Reported.{with_lines, AppendsPrefix, AppendsThenPrefix, AppendsPrefixThen, FailsToWrite, at_message, at_lines, at_lines_alone}
+use Rattle.hy_driver.specs.Reported.{at_both}
 use Rattle.hy_driver.specs.Texts.{output_fault}
 
 -- a message without bytes is written by doing nothing

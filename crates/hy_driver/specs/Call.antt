@@ -30,8 +30,30 @@ pub record Messages : Type 0 where
   pub faults : ℕ
   pub told : Option (List ℕ)
 
--- A call: its words; files, input and output, and where messages go, before it and after it; what it answers.
+-- what is answered, unless its message fails; `lines` are those of the report, if there is one
+pub record Answer : Type 0 where
+  pub status : ℕ
+  pub message : List ℕ
+  pub lines : List ℕ
+  pub object : List ℕ
+  pub counts : Counts
+
+-- A call up to its message: its words; files, input and output before it and after it; what it answers.
 pub record Call : Type 1 where
+  pub words : List (List ℕ)
+  pub files_before : Filed
+  pub files_after : Filed
+  pub before : Streams
+  pub after : Streams
+  pub status : ℕ
+  pub message : List ℕ
+  pub lines : List ℕ
+  pub object : List ℕ
+  pub counts : Counts
+
+-- All that is seen of a call: its words; files, input and output, and where messages go, before it and after it; what it
+-- returns.
+pub record Seen : Type 1 where
   pub words : List (List ℕ)
   pub files_before : Filed
   pub files_after : Filed
@@ -39,9 +61,7 @@ pub record Call : Type 1 where
   pub after : Streams
   pub err_before : Messages
   pub err_after : Messages
-  pub status : ℕ
-  pub object : List ℕ
-  pub counts : Counts
+  pub report : Report
 
 -- What is seen of objects at a moment, by the members of their traits.
 abbrev pub files_seen : {F : Type 0} → files_trait.Ghosts F → F → Filed
@@ -62,8 +82,27 @@ messages faults told = record { faults = faults; told = told }
 abbrev pub messages_seen : {E : Type 0} → sink_trait.Ghosts E → E → Messages
 messages_seen sink err = messages (sink.faults err) (sink.tells err)
 
-abbrev pub call_of : List (List ℕ) → Filed → Filed → Streams → Streams → Messages → Messages → Report → Call
-call_of words files_before files_after before after err_before err_after report =
+abbrev pub call_of : List (List ℕ) → Filed → Filed → Streams → Streams → Answer → Call
+call_of words files_before files_after before after it =
+    record {
+      words = words;
+      files_before = files_before;
+      files_after = files_after;
+      before = before;
+      after = after;
+      status = it.status;
+      message = it.message;
+      lines = it.lines;
+      object = it.object;
+      counts = it.counts;
+    }
+
+-- the call up to its message, where this is answered
+abbrev pub answering : Seen → Answer → Call
+answering s it = call_of s.words s.files_before s.files_after s.before s.after it
+
+abbrev pub seen_of : List (List ℕ) → Filed → Filed → Streams → Streams → Messages → Messages → Report → Seen
+seen_of words files_before files_after before after err_before err_after report =
     record {
       words = words;
       files_before = files_before;
@@ -72,16 +111,14 @@ call_of words files_before files_after before after err_before err_after report 
       after = after;
       err_before = err_before;
       err_after = err_after;
-      status = report.status;
-      object = report.object.items;
-      counts = report.counts;
+      report = report;
     }
 
 -- what is seen of a call over such objects, each given before the call and after it
 abbrev pub call_seen : {F I K E : Type 0} → files_trait.Ghosts F → source_trait.Ghosts I → sink_trait.Ghosts K → sink_trait.Ghosts E
-    → List (String Global) → F → F → I → I → K → K → E → E → Report → Call
+    → List (String Global) → F → F → I → I → K → K → E → E → Report → Seen
 call_seen of_files of_input of_out of_err words files files' input input' out out' err err' report =
-    call_of (map string_bytes words) (files_seen of_files files) (files_seen of_files files')
+    seen_of (map string_bytes words) (files_seen of_files files) (files_seen of_files files')
     (streams_seen of_input of_out input out) (streams_seen of_input of_out input' out')
     (messages_seen of_err err) (messages_seen of_err err') report
 
@@ -100,10 +137,9 @@ pub record IsInput (c : Call) (left : List ℕ) : Type 0 where
   pub still : c.after.input ≡ Some new
   pub left_of_it : left ≡ old.left
 
--- no count of faults rose, and the call did not run out of memory
+-- no count of faults rose up to the message, and the call did not run out of memory
 pub record IsQuiet (c : Call) : Type 0 where
   pub files : c.files_after.faults ≡ c.files_before.faults
   pub input : c.after.input_faults ≡ c.before.input_faults
   pub out : c.after.out_faults ≡ c.before.out_faults
-  pub err : c.err_after.faults ≡ c.err_before.faults
   pub memory : c.status ≢ 8

@@ -16,22 +16,16 @@ use Rattle.hy_object.specs.States.{Stop, Ended}
 use Rattle.hy_base.specs.Counted.{no_counts}
 use Rattle.hy_machine.specs.Built.{IsBuilt}
 use Rattle.hy_runs.specs.Runs.{RanToItsEnd, WasCutOff, CountsNone, CountsCause}
-use Rattle.hy_driver.specs.Call.{Filed, Streams}
+use Rattle.hy_driver.specs.Call.{Answer, Filed, Streams}
 use Rattle.hy_driver.specs.Compiled.{IsCompiled}
 use Rattle.hy_driver.specs.Headline.{turns, status_of, end_message}
-use Rattle.hy_driver.specs.Executed.{longest_object, IsFileOf, IsBadFile, status_of_stop, stop_message, lines_of, told_of, faults_of}
+use Rattle.hy_driver.specs.Executed.{longest_object, IsFileOf, IsBadFile, stop_message, lines_of}
+use Rattle.hy_driver.specs.Kept.{status_of_stop, cause_status, told_of, faults_of}
+use Rattle.hy_driver.specs.Outside.{IsIdle}
 use Rattle.hy_driver.specs.Texts.{refusal_message, bad_object_message, usage, file_fault, input_fault, output_fault, out_of_memory}
 use Rattle.hy_words.specs.declared.words.Options.{Options}
 use Rattle.hy_words.specs.Asked.{Asked, ToRun, ToExec, file_of}
 use Rattle.hy_words.specs.Commands.{command_of}
-
--- what is answered, unless its message fails; `lines` are those of the report, if there is one
-pub record Answer : Type 0 where
-  pub status : ℕ
-  pub message : List ℕ
-  pub lines : List ℕ
-  pub object : List ℕ
-  pub counts : Counts
 
 -- without a report
 abbrev pub answer : ℕ → List ℕ → List ℕ → Counts → Answer
@@ -47,13 +41,6 @@ ended_answer file bytes object ending = answer (status_of ending.end) (end_messa
 
 abbrev pub IsEither : Answer → Answer → Answer → Type 0
 IsEither it one other = (it ≡ one) ⊎ (it ≡ other)
-
--- input and output are as they were
-pub record IsIdle (before after : Streams) : Type 0 where
-  pub input_faults : after.input_faults ≡ before.input_faults
-  pub out_faults : after.out_faults ≡ before.out_faults
-  pub input : after.input ≡ before.input
-  pub out : after.out ≡ before.out
 
 -- the run of an object came to its end, and no count rose
 pub record IsStopped (object : Object) (n : ℕ) (before after : Streams) (stop : Stop) (counts : Counts) : Type 0 where
@@ -73,11 +60,6 @@ pub record IsRun (object : Object) (before after : Streams) (ending : Ending) : 
 pub record IsCut (object : Object) (before after : Streams) (fault : RunFault) : Type 0 where
   pub cut_short : IsCutShort object turns before after fault
   pub no_input : fault.cause ≢ cause.Input
-
-abbrev pub cause_status : RunCause → ℕ
-cause_status cause.Input = 6
-cause_status cause.Output = 7
-cause_status cause.NoMemory = 8
 
 abbrev pub cause_message : RunCause → List ℕ
 cause_message cause.Input = input_fault

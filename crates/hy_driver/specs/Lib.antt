@@ -3,9 +3,13 @@ pub mod Compiled
 pub mod Course
 pub mod Executed
 pub mod Headline
+pub mod Kept
 pub mod Lower
 pub mod Message
+pub mod Outside
 pub mod Promises
 pub mod Reply
+pub mod Reported
+pub mod Said
 pub mod Scopes
 pub mod Texts

@@ -5,7 +5,8 @@ ghost use Rattle.hy_object.specs.States.{Ended};
 ghost use Rattle.hy_driver.specs.Call.{streams_seen};
 ghost use Rattle.hy_driver.specs.Course.{answer, bare, IsEither, FileMayAnswer, stopped_answer};
 ghost use Rattle.hy_driver.specs.Reply.{answer_of};
-ghost use Rattle.hy_driver.specs.Executed.{IsFileOf, status_of_stop, stop_message, lines_of};
+ghost use Rattle.hy_driver.specs.Executed.{IsFileOf, stop_message, lines_of};
+ghost use Rattle.hy_driver.specs.Kept.{status_of_stop};
 ghost use Rattle.hy_driver.specs.Message.{bytes_of_message};
 ghost use Rattle.hy_driver.specs.Texts.{bad_object_message, out_of_memory};
 

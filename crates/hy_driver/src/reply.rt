@@ -3,8 +3,10 @@ ghost use Rattle.std.specs.Prelude.{◌≡◌, ◌≢◌, ◌-◌, ◌^◌, ◌<
 ghost use Rattle.hy_base.specs.Outside.{faults_after, StillTells};
 ghost use Rattle.hy_base.specs.Streams.{Puts};
 ghost use Rattle.hy_driver.specs.Call.{messages_seen};
-ghost use Rattle.hy_driver.specs.Course.{answer, bare, cause_status, cause_message};
-ghost use Rattle.hy_driver.specs.Reply.{answer_of, IsReported};
+ghost use Rattle.hy_driver.specs.Course.{answer, bare, cause_message};
+ghost use Rattle.hy_driver.specs.Kept.{cause_status};
+ghost use Rattle.hy_driver.specs.Reply.{answer_of};
+ghost use Rattle.hy_driver.specs.Reported.{IsReported};
 ghost use Rattle.hy_driver.specs.Message.{bytes_of_message};
 ghost use Rattle.hy_driver.specs.Texts.{out_of_memory};
 

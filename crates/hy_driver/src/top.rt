@@ -18,7 +18,9 @@ use crate::reply::{Reply, Report, answered, bare, cut_off, with_message, write_r
 use hy_base::{End, Ending, Fault, FileFault, Files, NO_COUNTS, Rule, Sink, Source, Span};
 use hy_front::{LONGEST, front, one_tree};
 use hy_machine::run;
-use hy_object::{Object, encode, one_place, one_run, one_spelling, writes_beginnings};
+use hy_object::{
+    Object, encode, every_run_adds_up, one_place, one_run, one_spelling, writes_beginnings,
+};
 use hy_words::{Command, Options, TURNS, Usage, read_words};
 use std::alloc::Global;
 
@@ -215,6 +217,7 @@ pub fn hyloc<F: Files, I: Source, K: Sink, E: Sink>(
     writes_beginnings();
     one_spelling();
     one_place();
+    every_run_adds_up();
     let reply = carry_out(alloc, words, files, input, out);
     write_reply(err, reply)
 }

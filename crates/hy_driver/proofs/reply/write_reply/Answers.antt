@@ -1,4 +1,4 @@
-use Rattle.std.proofs.Common.{◌≡◌, length, inr, refl, sym, ◌∙◌, rules}
+use Rattle.std.proofs.Common.{◌≡◌, length, inr, sym, ◌∙◌, rules}
 use Rattle.hy_driver.specs.Message.{bytes_of_message}
 use Rattle.hy_driver.proofs.Writing.{fails_alone, no_bytes}
 use Rattle.hy_driver.proofs.reply.write_reply.Goals as goal

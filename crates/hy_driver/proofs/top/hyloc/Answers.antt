@@ -6,6 +6,7 @@ returns g c =
     let laws : Laws = record {
       one_tree = c.one_tree.ensures;
       one_run = c.one_run.ensures;
+      every_run_adds_up = c.every_run_adds_up.ensures;
       writes_beginnings = c.writes_beginnings.ensures;
       one_spelling = c.one_spelling.ensures;
       one_place = c.one_place.ensures;
