@@ -59,12 +59,22 @@ stmt_facts around (T.Binding introducer name written value at) = has_type at.nod
 stmt_facts around (T.Declare name written at) = HasType at.node (written_type around.source written) ∷ type_facts around.source written
 stmt_facts around stmt = []
 
-abbrev pub phrase_facts : Phrase → List Fact
-phrase_facts (AnExpr around used marked e) = has_type (T.at_expr e).node (type_in (valued around marked e)) ++ inner_facts around e
-phrase_facts (AStep around used marked before step more span) =
+-- the types of a phrase
+abbrev pub phrase_types : Phrase → List Fact
+phrase_types (AnExpr around used marked e) = inner_facts around e ++ has_type (T.at_expr e).node (type_in (valued around marked e))
+phrase_types (AStep around used marked before step more span) =
     has_type (T.at_step step).node (type_in (value_of (after around marked before step more)))
-    ++ call_facts (T.at_step step).node (seen around before step more) (all_there (step_types around step)) marked (on_place before) used
-phrase_facts (AStmt around body stmt) = stmt_facts around stmt
+phrase_types (AStmt around body stmt) = stmt_facts around stmt
+
+-- the call that it is
+abbrev pub phrase_calls : Phrase → List Fact
+phrase_calls (AnExpr around used marked e) = []
+phrase_calls (AStep around used marked before step more span) =
+    call_facts (T.at_step step).node (seen around before step more) (all_there (step_types around step)) marked (on_place before) used
+phrase_calls (AStmt around body stmt) = []
+
+abbrev pub phrase_facts : Phrase → List Fact
+phrase_facts phrase = phrase_types phrase ++ phrase_calls phrase
 
 -- DECLARATIONS
 

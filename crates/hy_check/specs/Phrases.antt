@@ -1,4 +1,5 @@
--- The phrases of a source: its expressions, steps and statements, each with what is known around it and how it is used.
+-- The phrases of a source: its expressions, steps and statements, each with what is known around it and how it is used. The parts of
+-- a phrase stand before it, in the order in which a walk that needs their types meets them.
 use Rattle.std.specs.Prelude.{ℕ, ◌==◌, ◌&&◌, Bool as Truth, true, false, List, [], ◌∷◌, ◌++◌, Option, Some, None, cond, option_map}
 use Rattle.hy_base.specs.declared.position.Span.{Span}
 use Rattle.hy_tree.specs.Tree as T
@@ -69,22 +70,22 @@ rest_uses (used ∷ more) = more
 abbrev mutual
   pub in_expr : Around → Use → (marked : Truth) → T.Expr → List Phrase
   in_expr around used marked (T.Chain first links at) =
-      AnExpr around used marked (T.Chain first links at) ∷ (in_expr around U.Read false first ++ in_links around links)
-  in_expr around used marked (T.Unary operator operand at) = AnExpr around used marked (T.Unary operator operand at) ∷ in_expr around U.Read false operand
-  in_expr around used marked (T.Marked operand at) = AnExpr around used marked (T.Marked operand at) ∷ in_expr around used true operand
+      in_expr around U.Read false first ++ (in_links around links ++ AnExpr around used marked (T.Chain first links at) ∷ [])
+  in_expr around used marked (T.Unary operator operand at) =
+      in_expr around U.Read false operand ++ AnExpr around used marked (T.Unary operator operand at) ∷ []
+  in_expr around used marked (T.Marked operand at) = in_expr around used true operand ++ AnExpr around used marked (T.Marked operand at) ∷ []
   in_expr around used marked (T.Postfix primary steps at) =
-      AnExpr around used marked (T.Postfix primary steps at)
-      ∷ (unless_called (begins around primary steps) (in_expr around (used_before around marked (begins around primary steps) steps used) false primary)
-      ++ in_steps around used marked (begins around primary steps) steps at.span)
+      unless_called (begins around primary steps) (in_expr around (used_before around marked (begins around primary steps) steps used) false primary)
+      ++ (in_steps around used marked (begins around primary steps) steps at.span ++ AnExpr around used marked (T.Postfix primary steps at) ∷ [])
   in_expr around used marked (T.Number number at) = AnExpr around used marked (T.Number number at) ∷ []
   in_expr around used marked (T.Truth truth at) = AnExpr around used marked (T.Truth truth at) ∷ []
   in_expr around used marked (T.Named name at) = AnExpr around used marked (T.Named name at) ∷ []
   in_expr around used marked (T.SelfValue token at) = AnExpr around used marked (T.SelfValue token at) ∷ []
   in_expr around used marked (T.EmptyArray element at) = AnExpr around used marked (T.EmptyArray element at) ∷ []
-  in_expr around used marked (T.Tuple parts at) = AnExpr around used marked (T.Tuple parts at) ∷ in_exprs around parts
-  in_expr around used marked (T.Array elements at) = AnExpr around used marked (T.Array elements at) ∷ in_exprs around elements
+  in_expr around used marked (T.Tuple parts at) = in_exprs around parts ++ AnExpr around used marked (T.Tuple parts at) ∷ []
+  in_expr around used marked (T.Array elements at) = in_exprs around elements ++ AnExpr around used marked (T.Array elements at) ∷ []
   in_expr around used marked (T.IfElse choices otherwise at) =
-      AnExpr around used marked (T.IfElse choices otherwise at) ∷ (in_choices around choices ++ in_expr around U.Sink false otherwise)
+      in_choices around choices ++ (in_expr around U.Sink false otherwise ++ AnExpr around used marked (T.IfElse choices otherwise at) ∷ [])
 
   -- parts of a tuple and elements of an array are moved into it
   pub in_exprs : Around → T.Exprs → List Phrase
@@ -103,9 +104,9 @@ abbrev mutual
   pub in_steps : Around → Use → (marked : Truth) → Before → T.Steps → Span → List Phrase
   in_steps around used marked before T.NoStep whole = []
   in_steps around used marked before (T.ThenStep step more) whole =
-      AStep around (used_after around marked before step more used) (marked && none more) before step more (step_span step more whole)
-      ∷ (in_step around (step_uses around marked before step more used) step
-      ++ in_steps around used marked (after around marked before step more) more whole)
+      in_step around (step_uses around marked before step more used) step
+      ++ AStep around (used_after around marked before step more used) (marked && none more) before step more (step_span step more whole)
+      ∷ in_steps around used marked (after around marked before step more) more whole
 
   pub in_step : Around → List Use → T.Step → List Phrase
   in_step around uses (T.MemberStep name at) = []
@@ -146,21 +147,21 @@ in_value around (Some value) = in_expr around U.Sink false value
 abbrev mutual
   pub in_stmt : Around → Body → T.Stmt → List Phrase
   in_stmt around body (T.Binding introducer name written value at) =
-      AStmt around body (T.Binding introducer name written value at) ∷ in_expr around (bound_use introducer) false value
+      in_expr around (bound_use introducer) false value ++ AStmt around body (T.Binding introducer name written value at) ∷ []
   in_stmt around body (T.Declare name written at) = AStmt around body (T.Declare name written at) ∷ []
   in_stmt around body (T.Assign target value at) =
-      AStmt around body (T.Assign target value at) ∷ (in_expr around U.Assigned false target ++ in_expr around U.Sink false value)
+      in_expr around U.Assigned false target ++ (in_expr around U.Sink false value ++ AStmt around body (T.Assign target value at) ∷ [])
   in_stmt around body (T.Compound target operator value at) =
-      AStmt around body (T.Compound target operator value at) ∷ (in_expr around U.Compound false target ++ in_expr around U.Read false value)
-  in_stmt around body (T.Evaluate value at) = AStmt around body (T.Evaluate value at) ∷ in_expr around U.Read false value
+      in_expr around U.Compound false target ++ (in_expr around U.Read false value ++ AStmt around body (T.Compound target operator value at) ∷ [])
+  in_stmt around body (T.Evaluate value at) = in_expr around U.Read false value ++ AStmt around body (T.Evaluate value at) ∷ []
   in_stmt around body (T.If branches otherwise at) =
-      AStmt around body (T.If branches otherwise at) ∷ (in_branches around body branches ++ in_otherwise around body otherwise)
+      in_branches around body branches ++ (in_otherwise around body otherwise ++ AStmt around body (T.If branches otherwise at) ∷ [])
   in_stmt around body (T.While token condition block at) =
-      AStmt around body (T.While token condition block at) ∷ (in_expr around U.Read false condition ++ in_block around body block)
-  in_stmt around body (T.Return token value at) = AStmt around body (T.Return token value at) ∷ in_value around value
+      in_expr around U.Read false condition ++ (in_block around body block ++ AStmt around body (T.While token condition block at) ∷ [])
+  in_stmt around body (T.Return token value at) = in_value around value ++ AStmt around body (T.Return token value at) ∷ []
   in_stmt around body (T.Break at) = AStmt around body (T.Break at) ∷ []
   in_stmt around body (T.Continue at) = AStmt around body (T.Continue at) ∷ []
-  in_stmt around body (T.Yield token value at) = AStmt around body (T.Yield token value at) ∷ in_expr around body.yields false value
+  in_stmt around body (T.Yield token value at) = in_expr around body.yields false value ++ AStmt around body (T.Yield token value at) ∷ []
 
   pub in_stmts : Around → Body → T.Stmts → List Phrase
   in_stmts around body T.NoStmt = []

@@ -191,6 +191,10 @@ t6 (AnExpr around used marked e) = []
 t6 (AStep around used marked before step more span) = unsound_copy around (seen around before step more) span
 t6 (AStmt around body stmt) = []
 
+-- the rules that a phrase breaks
+abbrev pub broken_by : Phrase → List Refusal
+broken_by phrase = t1 phrase ++ (t2 phrase ++ (t4 phrase ++ t6 phrase))
+
 -- RULES ON DECLARATIONS: T3, T5, and T6 of fields
 
 abbrev pub uncopyable_field : Source → Field → List Refusal

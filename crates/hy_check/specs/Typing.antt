@@ -147,7 +147,7 @@ is_place around e = is_place_value (valued around false e)
 
 -- the span of an expression in a refusal: a place leaves its `&` out
 abbrev pub shown : Around → T.Expr → Span
-shown around (T.Marked operand at) = cond (is_place around operand) (T.at_expr operand).span at.span
+shown around (T.Marked operand at) = cond (is_place around (T.Marked operand at)) (T.at_expr operand).span at.span
 shown around e = (T.at_expr e).span
 
 -- what stands after a step, in front of these steps
