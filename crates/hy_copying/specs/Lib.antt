@@ -1,0 +1,11 @@
+pub mod Known
+pub mod Runs
+pub mod Places
+pub mod Does
+pub mod Lives
+pub mod Opening
+pub mod Operations
+pub mod Expressions
+pub mod Statements
+pub mod Meaning
+pub mod Laws
