@@ -50,27 +50,24 @@ begun later (Gives given env s) = later.body (main_of later.known.source) mode.L
 begun later (Yields v s resumed) = Halted (Ends end.Done) s
 begun later (Stops h s) = Halted h s
 
-abbrev runs : Later → State → Came
-runs later s = begun later (turn (record { locals = []; temporaries = [] }) s)
+abbrev runs_main : Later → State → Came
+runs_main later s = begun later (turn (record { locals = []; temporaries = [] }) s)
 
-abbrev run : Known → (input : List ℕ) → (cut : Bool) → (n : ℕ) → (events : Option ℕ) → Report
-run known input cut n events = ended input n (runs (at_most known n) (start input cut n events))
+-- A run of `main` of a numbered tree that breaks no rule: on this input, which is a beginning only where `cut` holds, with at most n turns,
+-- and with so many events at most where they are limited.
+abbrev pub run : T.Program → (input : List ℕ) → (cut : Bool) → (n : ℕ) → (events : Option ℕ) → Report
+run tree input cut n events = ended input n (runs_main (at_most (known_of tree) n) (start input cut n events))
 
--- The meaning of a numbered tree that breaks no rule: a run of `main` on this input, which is a beginning only where `cut` holds, with at
--- most n turns.
+-- the meaning
 abbrev pub mean : T.Program → (input : List ℕ) → (cut : Bool) → (n : ℕ) → Report
-mean tree input cut n = run (known_of tree) input cut n None
+mean tree input cut n = run tree input cut n None
 
 -- STATES OF A RUN
 
--- what is seen before the event after so many events
-abbrev pub after_events : T.Program → (input : List ℕ) → (cut : Bool) → (n : ℕ) → (events : ℕ) → Report
-after_events tree input cut n events = run (known_of tree) input cut n (Some events)
-
--- what is seen in some state of the run
+-- This is seen in some state of the run: after so many events, before the next one or at the end.
 pub record IsSeen (tree : T.Program) (input : List ℕ) (cut : Bool) (n : ℕ) (r : Report) : Type 0 where
   pub events : ℕ
-  pub same : after_events tree input cut n events ≡ r
+  pub same : run tree input cut n (Some events) ≡ r
 
 -- in that state the next event is a `print` of this piece, or a `read`
 pub record IsBeforePrint (tree : T.Program) (input : List ℕ) (cut : Bool) (n : ℕ) (piece : List ℕ) (r : Report) : Type 0 where

@@ -1,0 +1,32 @@
+//! Worked examples of the copying meaning: programs with what they write and how they end, computed by the definitions. The functions
+//! do nothing; their contracts are tables. `docs/COPYING.md` has the rules.
+#![tactic(auto)]
+
+ghost use Rattle.hy_copying_examples.specs.Accounts as accounts;
+ghost use Rattle.hy_copying_examples.specs.Basics as basic;
+ghost use Rattle.hy_copying_examples.specs.Rows.{Hold};
+
+/// A program of some eighty lines, with traits, arrays and projections.
+pub fn accounts_in_a_table()
+    ensures { Hold accounts.rows }
+{}
+
+/// What operators give.
+pub fn operators()
+    ensures { Hold basic.operators }
+{}
+
+/// Traps, with their spans.
+pub fn traps()
+    ensures { Hold basic.traps }
+{}
+
+/// Branches and loops.
+pub fn branches()
+    ensures { Hold basic.branches }
+{}
+
+/// Calls, and the order in which arguments are evaluated.
+pub fn calls()
+    ensures { Hold basic.calls }
+{}
