@@ -1,3 +1,4 @@
 pub mod Accounts
 pub mod Basics
+pub mod Lives
 pub mod Rows

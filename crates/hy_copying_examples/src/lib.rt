@@ -4,6 +4,7 @@
 
 ghost use Rattle.hy_copying_examples.specs.Accounts as accounts;
 ghost use Rattle.hy_copying_examples.specs.Basics as basic;
+ghost use Rattle.hy_copying_examples.specs.Lives as life;
 ghost use Rattle.hy_copying_examples.specs.Rows.{Hold};
 
 /// A program of some eighty lines, with traits, arrays and projections.
@@ -29,4 +30,19 @@ pub fn branches()
 /// Calls, and the order in which arguments are evaluated.
 pub fn calls()
     ensures { Hold basic.calls }
+{}
+
+/// What is moved, and what is set in part.
+pub fn moves()
+    ensures { Hold life.moves }
+{}
+
+/// What is deinitialised at the ends of statements, blocks and bodies.
+pub fn ends()
+    ensures { Hold life.ends }
+{}
+
+/// When temporaries die.
+pub fn temporaries()
+    ensures { Hold life.temporaries }
 {}
