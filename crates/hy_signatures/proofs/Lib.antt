@@ -1,4 +1,5 @@
 pub mod CallableTables
+pub mod CalledNames
 pub mod CopyTables
 pub mod Equality
 pub mod Keys
@@ -7,4 +8,5 @@ pub mod MemberTables
 pub mod Numbering
 pub mod OwnerTables
 pub mod ParameterTables
+pub mod SourceTables
 pub mod TraitTables

@@ -12,5 +12,6 @@ pub mod Shown
 pub mod Signatures
 pub mod SignaturesShown
 pub mod SolutionShown
+pub mod TablesShown
 pub mod TraitsShown
 pub mod WantedShown

@@ -4,6 +4,7 @@
 
 pub mod array_members;
 pub mod callables;
+pub mod called;
 pub mod copyables;
 pub mod determined;
 pub mod functions;
@@ -17,6 +18,7 @@ pub mod replaced;
 pub mod signatures;
 pub mod solutions;
 pub mod source;
+pub mod tables;
 pub mod traits;
 pub mod types;
 pub mod wanted;

@@ -7,12 +7,14 @@ ghost use Rattle.hy_types.specs.Types.{Table, HasId, type_of};
 ghost use Rattle.hy_signatures.specs.Declarations as declarations;
 ghost use Rattle.hy_signatures.specs.Declarations.{callable_named, fields_among, members_of, members_of_trait, requirement_named};
 ghost use Rattle.hy_signatures.specs.MembersShown.{MembersAre, HasFields, IsFound};
+ghost use Rattle.hy_signatures.specs.NamedShown.{named_shown};
 ghost use Rattle.hy_signatures.specs.OwnersShown.{AreOwners};
 ghost use Rattle.hy_signatures.specs.Shown.{source_shown};
 ghost use Rattle.hy_signatures.specs.TraitsShown.{AreTraits};
 
 use crate::callables::CallableTypes;
 use crate::members::{FieldType, Members};
+use crate::named::Named;
 use crate::owners::Owners;
 use crate::source::Source;
 use crate::traits::Traits;
@@ -21,6 +23,17 @@ use hy_tree::{Meant, NameUse};
 use hy_types::TyId;
 
 impl<'a> Owners<'a> {
+    /// The members of a type that a name stands for, where it has some.
+    pub fn members_named(&self, named: Named) -> Option<&Members<'a>>
+        ensures { (table : Table) (source : declarations.Source) → AreOwners table source self.now
+            → MembersAre table source (members_of source (named_shown named)) (option_copied result) }
+    {
+        match self.rows.get(&named) {
+            Some(owner) => Some(&owner.members),
+            None => None,
+        }
+    }
+
     /// The members of a type, where it has some.
     pub fn members(&self, types: &Types, id: TyId) -> Option<&Members<'a>>
         requires { HasId types.now id }
@@ -28,10 +41,7 @@ impl<'a> Owners<'a> {
             → MembersAre types.now source (members_of source (type_of types.now id)) (option_copied result) }
     {
         match types.as_named(id) {
-            Some(named) => match self.rows.get(&named) {
-                Some(owner) => Some(&owner.members),
-                None => None,
-            },
+            Some(named) => self.members_named(named),
             None => None,
         }
     }
