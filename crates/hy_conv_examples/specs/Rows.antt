@@ -1,4 +1,4 @@
--- Small programs and the first rule on conventions that each breaks.
+-- Small programs and the first rule on conventions and yields that each breaks.
 use Rattle.std.specs.Prelude.{◌≡◌, ℕ, List, [], ◌∷◌, ◌++◌, Result, Ok, Err, codes}
 use Rattle.hy_base.specs.declared.position.Span.{Span}
 use Rattle.hy_base.specs.declared.refusal.Rule.{Rule}
@@ -9,10 +9,13 @@ use Rattle.hy_tree.specs.Tree as T
 use Rattle.hy_check.specs.Refusals as types
 use Rattle.hy_check_examples.specs.Reader.{Outcome, NoProgram, Refused, Sound, reading, tree_of, first_name, first_of, refused, wanted}
 use Rattle.hy_conv.specs.Conventions as conventions
+use Rattle.hy_conv.specs.Yields as yields
 
--- the first rule of all on names, types and conventions
+-- the first rule of all on names, types, conventions and yields, in this order
 abbrev judged : T.Program → Outcome
-judged p = refused (or (first_name (findings p)) (or (first_of (types.refusals p)) (first_of (conventions.refusals p))))
+judged p =
+    refused (or (first_name (findings p))
+    (or (first_of (types.refusals p)) (or (first_of (conventions.refusals p)) (first_of (yields.refusals p)))))
 
 abbrev outcome_of : Result T.Program ℕ → Outcome
 outcome_of (Err left) = NoProgram left
@@ -60,6 +63,7 @@ badly_marked =
     ∷ codes "fun main() { var a = [1]; print(«a.remove_last()») }"
     ∷ codes "type A { var n: Int fun inc() inout -> A { n += 1; return A(n: 0) } } fun main() { var a = A(n: 1); print(«a.inc()».n) }"
     ∷ codes "fun main() { var a = 1; let x = &«a» }"
+    ∷ codes "fun main() { var a = 1; print(«&a.copy()») }"
     ∷ []
 
 abbrev pub without_variant : List (List ℕ)
@@ -80,6 +84,45 @@ no_places =
     ∷ codes "fun f() -> Int { return 1 } fun main() { «f()» += 2 }"
     ∷ []
 
+abbrev pub paths_without_yield : List (List ℕ)
+paths_without_yield =
+    codes "subscript p(_ c: Bool, _ x: yielded Int): Int { «let» { if c { yield x } } } fun main() {}"
+    ∷ codes "«subscript» p(_ x: yielded Int): Int {} fun main() {}"
+    ∷ codes "subscript p(_ x: yielded Int): Int { let { yield x } «inout» { while true { return }; yield &x } } fun main() {}"
+    ∷ codes "subscript p(_ x: yielded Int): Int { «let» { while true { yield x } } } fun main() {}"
+    ∷ codes "subscript p(_ c: Bool, _ x: yielded Int): Int { «let» { if c { yield x } else if !c { yield x } } } fun main() {}"
+    ∷ codes "subscript p(_ x: yielded Int): Int { «let» { return; yield x } } fun main() {}"
+    ∷ []
+
+abbrev pub yields_after_others : List (List ℕ)
+yields_after_others =
+    codes "subscript p(_ c: Bool, _ x: yielded Int): Int { let { if c { yield x }; «yield» x } } fun main() {}"
+    ∷ codes "fun main() { while true { «yield» 1 } }"
+    ∷ codes "subscript p(_ x: yielded Int): Int { let { yield x; while true { «yield» x } } } fun main() {}"
+    ∷ codes "subscript p(_ c: Bool, _ x: yielded Int): Int { let { if c { yield x } else { yield x; «yield» x } } } fun main() {}"
+    ∷ []
+
+abbrev pub yields_in_loops : List (List ℕ)
+yields_in_loops =
+    codes "subscript p(_ x: yielded Int): Int { let { while true { «yield» x; break }; yield x } } fun main() {}"
+    ∷ codes "subscript p(_ x: yielded Int): Int { let { yield x; return; while true { «yield» x } } } fun main() {}"
+    ∷ []
+
+abbrev pub yields_elsewhere : List (List ℕ)
+yields_elsewhere =
+    codes "fun f(_ x: Int) { «yield» x } fun main() {}"
+    ∷ codes "subscript p(_ x: yielded Int): Int { let { yield x } sink { «yield» x; return 1 } } fun main() {}"
+    ∷ codes "type A { var n: Int deinit { «yield» n } } fun main() {}"
+    ∷ []
+
+abbrev pub yielded_badly : List (List ℕ)
+yielded_badly =
+    codes "type A { var n: Int subscript at(): Int { let { yield &«n» } } } fun main() {}"
+    ∷ codes "subscript p(_ x: yielded Int): Int { inout { yield «x» } } fun main() {}"
+    ∷ codes "subscript p(_ x: yielded Int): Int { let { yield «1» } } fun main() {}"
+    ∷ codes "subscript p(_ x: yielded Int): Int { let { yield «x + 1» } } fun main() {}"
+    ∷ []
+
 abbrev pub sound : List (List ℕ)
 sound =
     codes "fun main() { var x = 1; &x += 1; print(x) }"
@@ -93,4 +136,6 @@ sound =
     ∷ codes "fun main() { var a = [1, 2]; a[0] = 3; &a.append(4); print(&a.remove_last()); print(a.count) }"
     ∷ codes "type D { var n: Int deinit { n = 0 } } fun main() { var d = D(n: 1) }"
     ∷ codes "type A { var n: Int } fun main() { A(n: 1).n = 2 }"
+    ∷ codes "subscript p(_ c: Bool, _ x: yielded Int): Int { let { if c { yield x } else { yield x } } inout { yield &x; return; yield &x } } fun main() {}"
+    ∷ codes "subscript p(_ c: Bool, _ x: yielded Int): Int { let { while c { if !c { break }; continue }; yield x } } fun main() {}"
     ∷ []

@@ -1,4 +1,4 @@
-//! Worked examples of the rules on conventions: small programs, each with the first rule that it breaks, computed by the
+//! Worked examples of the rules on conventions and yields: small programs, each with the first rule that it breaks, computed by the
 //! definitions. The functions do nothing; their contracts are tables. `docs/CONVENTIONS.md` has the rules.
 #![tactic(auto)]
 
@@ -25,7 +25,32 @@ pub fn changed_places_are_places()
     ensures { row.Refuses rule.C4 row.no_places }
 {}
 
-/// Programs that break no rule on conventions.
+/// Each path through a body that yields has a `yield`.
+pub fn paths_yield()
+    ensures { row.Refuses rule.Y1 row.paths_without_yield }
+{}
+
+/// No path has two.
+pub fn paths_yield_once()
+    ensures { row.Refuses rule.Y2 row.yields_after_others }
+{}
+
+/// No `yield` stands in a loop.
+pub fn no_loop_yields()
+    ensures { row.Refuses rule.Y3 row.yields_in_loops }
+{}
+
+/// Bodies of subscripts that are `let` or `inout` yield, and no others.
+pub fn subscripts_yield()
+    ensures { row.Refuses rule.Y4 row.yields_elsewhere }
+{}
+
+/// Places are yielded, with a mark where they are lent for change.
+pub fn places_are_yielded()
+    ensures { row.Refuses rule.Y5 row.yielded_badly }
+{}
+
+/// Programs that break no rule on conventions or yields.
 pub fn sound_programs()
     ensures { row.Accepts row.sound }
 {}

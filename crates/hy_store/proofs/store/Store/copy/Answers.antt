@@ -101,14 +101,14 @@ returns c =
     writes_cells _ _ _ c.in_ok-x.x.range c.in_ok-row.row.items (λ s. copy s c.args.to c.args.from c.args.words)
     (λ s. window s.cells (abstract_range c.in_ok-y.y.range)) put x.cells (row_length _ _ _ c.in_ok-row.ensures ∙ y.len ∙ sym x.len)
     (λ g s represents. (
-    let x : Reach = represented g s c.in_ok-x.x in
-    let y : Reach = represented g s c.in_ok-y.y in
-    c.in_ok-x.ensures.checks g s represents (from_write s c.args.from c.args.words)
-    ∙ checked s kind.Access _ _ (from_place s c.args.from c.args.words x) _ (c.may_write.ensures s g.name represents.opened.told) (c.in_ok-check.ensures s _)
-    ∙ c.in_ok-y.ensures.checks g s represents (from_read s x)
-    ∙ checked s kind.Access _ _ (from_unset s x y) _ (c.may_read.ensures s g.name represents.opened.told) (c.in_ok-check-2.ensures s _)
-    ∙ checked s kind.Unset _ _ (from_kind s x y) _ (c.is_whole.ensures g s represents) (c.in_ok-check-3.ensures s _)
-    ∙ checked s kind.Kind _ _ (from_lost s x y) _ (c.is_nameless.ensures g s represents) (c.in_ok-check-4.ensures s _)
-    ∙ checked s kind.Lost _ _ (puts (next s) x.range (window s.cells y.range)) _ (c.is_nameless-2.ensures g s represents) (c.in_ok-check-5.ensures s _),
-    row_tells g c.args.self.now c.args.fun.now s represents c.in_ok-y.y.range c.in_ok-row.row.items c.in_ok-row.ensures,
+      let x : Reach = represented g s c.in_ok-x.x in
+          let y : Reach = represented g s c.in_ok-y.y in
+          c.in_ok-x.ensures.checks g s represents (from_write s c.args.from c.args.words)
+          ∙ checked s kind.Access _ _ (from_place s c.args.from c.args.words x) _ (c.may_write.ensures s g.name represents.opened.told) (c.in_ok-check.ensures s _)
+          ∙ c.in_ok-y.ensures.checks g s represents (from_read s x)
+          ∙ checked s kind.Access _ _ (from_unset s x y) _ (c.may_read.ensures s g.name represents.opened.told) (c.in_ok-check-2.ensures s _)
+          ∙ checked s kind.Unset _ _ (from_kind s x y) _ (c.is_whole.ensures g s represents) (c.in_ok-check-3.ensures s _)
+          ∙ checked s kind.Kind _ _ (from_lost s x y) _ (c.is_nameless.ensures g s represents) (c.in_ok-check-4.ensures s _)
+          ∙ checked s kind.Lost _ _ (puts (next s) x.range (window s.cells y.range)) _ (c.is_nameless-2.ensures g s represents) (c.in_ok-check-5.ensures s _),
+      row_tells g c.args.self.now c.args.fun.now s represents c.in_ok-y.y.range c.in_ok-row.row.items c.in_ok-row.ensures,
     ))
