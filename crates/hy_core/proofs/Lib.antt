@@ -10,6 +10,7 @@ pub mod Typed
 pub mod TypedWalks
 pub mod TypedOperations
 pub mod Paths
+pub mod TypedFrames
 pub mod Stuck
 pub mod OpenPlaces
 pub mod FlowStates
@@ -32,5 +33,6 @@ pub mod SetEntries
 pub mod SetDrops
 pub mod SetRuns
 pub mod FlowTests
+pub mod FlowOperations
 pub mod FlowSound
 pub mod States
