@@ -25,7 +25,10 @@ pub mod FlowIsCalm
 pub mod SetValues
 pub mod SetParts
 pub mod SetMemories
+pub mod SetGood
+pub mod SetTies
 pub mod SetWalks
+pub mod SetOperations
 pub mod SetFrames
 pub mod SetSteps
 pub mod SetBodies

@@ -34,7 +34,8 @@ use Rattle.hy_core.proofs.CalmSteps.{like_self}
 use Rattle.hy_core.proofs.SetValues.{Sets, sets_whole, Meets, leaves_blank, no_array}
 use Rattle.hy_core.proofs.SetMemories.{InitMaps, NotAway, Holds, holds_hand, returned}
 use Rattle.hy_core.proofs.FlowStates.{Tells, tells_set, tells_unset, tells_counts, tells_same, tells_less}
-use Rattle.hy_core.proofs.SetWalks.{Fine, over, stands, Sure, Tie, wholes, tells_set_local}
+use Rattle.hy_core.proofs.SetGood.{Fine, over, stands, Sure}
+use Rattle.hy_core.proofs.SetTies.{Tie, wholes, tells_set_local}
 use Rattle.hy_core.proofs.SetFrames.{SameInit, WorkSet, World, Frame, WaitsFor, Writes_back, Runs_on, CallersSet, Stands, Changes, frame_keep, callers_keep}
 use Rattle.hy_core.proofs.SetSteps.{Ids, Here, now_here, done, takes, writes, whole_local, NowOf}
 

@@ -34,10 +34,11 @@ use Rattle.hy_core.proofs.CalmSteps.{Like, like_self}
 use Rattle.hy_core.proofs.Stuck.{deinit_found}
 use Rattle.hy_core.proofs.SetValues.{truth_of, Meets, meets_set, split, with_map_below, with_map_apart, with_map_above, whole_unset, sets_none}
 use Rattle.hy_core.proofs.SetMemories.{InitMaps, holds_lent, kept_here}
-use Rattle.hy_core.proofs.SetWalks.{Fine, over, stands, Sure, good_some, good_if, good_turn, still_exact, wholes}
-use Rattle.hy_core.proofs.SetWalks.{with_rel, tells_change, tells_set_local, untied_with, none_tells, Tie, IsForeign, covered}
+use Rattle.hy_core.proofs.SetGood.{Fine, over, stands, Sure, good_some, good_if, good_turn}
+use Rattle.hy_core.proofs.SetTies.{still_exact, wholes, with_rel, tells_change, tells_set_local, untied_with, none_tells, Tie, IsForeign}
+use Rattle.hy_core.proofs.SetWalks.{covered}
 use Rattle.hy_core.proofs.SetFrames.{flows_less, TasksSet, WorkSet, Stands}
-use Rattle.hy_core.proofs.SetSteps.{small_of, Here, here_work, here_less, here_stands, here_now, now_here, like_stands}
+use Rattle.hy_core.proofs.SetSteps.{small_of, Here, here_work, here_less, here_stands, here_now, now_here, like_stands, acting}
 use Rattle.hy_core.proofs.SetEntries.{Handing, begins, ty', maps₀, promised', holds₀, ty_new, maps_old, maps_new, at_new, at_old, not_started}
 
 -- a whole product of a declaration
@@ -560,9 +561,8 @@ module _ (p : Setting) (signatures : ℕ → Signature) (signs : (n : ℕ) → s
         by false e kept = λ quiet. (
           tt,
           next _ (here_now p signatures sh c m number g here (with_init g s.key.local s.path none_set) _
-              (covered p TS signatures number here.ty c.started here.promised here.maps m.opened c here.locals here.below
-              (small_of p.core sh number c.now.fun here.found) g m (now_here p signatures sh c m number g here) s.key.local s.path u none_set none_set Unset is
-              quiet.0 tt (sets_none p.core.types u) none_tells spot.untied)) quiet.1,
+              (covered (acting p signatures sh c m number g here) g m (now_here p signatures sh c m number g here) s.key.local s.path u none_set none_set Unset
+              is quiet.0 tt (sets_none p.core.types u) none_tells spot.untied)) quiet.1,
         )
 
   pub tasks_set : (ts : List Task) (m : Copies) (g : FlowState) → Here p signatures c m number g → Tasks ts g → Sure p TS (does_tasks p c w ts) m

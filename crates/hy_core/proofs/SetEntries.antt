@@ -33,7 +33,9 @@ use Rattle.hy_core.proofs.CalmSteps.{Like, like_self}
 use Rattle.hy_core.proofs.SetValues.{Sets, sets_whole, Meets, no_array, sets_counts}
 use Rattle.hy_core.proofs.FlowStates.{SignsSet, Tells, tells_counts, tells_same}
 use Rattle.hy_core.proofs.SetMemories.{InitMaps, side, at_two, Holds, holds_store, holds_hand, holds_new, kept_here}
-use Rattle.hy_core.proofs.SetWalks.{over, stands, Sure, good_if, good_turn, wholes, tells_set_local, untied_with, IsForeign, Tie, Now, good_take, AllBound}
+use Rattle.hy_core.proofs.SetGood.{over, stands, Sure, good_if, good_turn}
+use Rattle.hy_core.proofs.SetTies.{wholes, tells_set_local, untied_with, IsForeign, Tie, AllBound}
+use Rattle.hy_core.proofs.SetWalks.{Now, good_take, Acting}
 use Rattle.hy_core.proofs.SetFrames.{WorkSet, WaitsFor, Runs_on, Stands, Changes, frame_keep, callers_keep}
 use Rattle.hy_core.proofs.SetSteps.{small_of, Here}
 use Rattle.hy_core.proofs.SetBodies.{slice_front, way_tied}
@@ -120,10 +122,26 @@ module _ (p : Setting) (signatures : ℕ → Signature) (sh : Shaped p.core) (re
       (λ k lt. (at_old here.ty (local_type f) k (below_old k lt), maps_old k lt, at_old here.promised (λ l. ((signatures n).lent l).after) k (below_old k lt)))
       maps_new
 
+  -- the activation that moves its owned arguments to the new one
+  abbrev moving : InitMaps → Acting
+  moving first = record {
+    p = p;
+    S = Stands p signatures;
+    signatures = signatures;
+    number = number;
+    ty = ty';
+    n = suc c.started;
+    P = promised';
+    first = first;
+    slots = m.opened;
+    k₀ = c;
+    local = ty_mine;
+    below_n = less_more here.below;
+    small = small_of p.core sh number c.now.fun here.found;
+  }
+
   abbrev NowOf : InitMaps → FlowState → Copies → Type 0
-  NowOf first =
-      Now p (Stands p signatures) signatures number ty' (suc c.started) promised' first m.opened c ty_mine (less_more here.below)
-      (small_of p.core sh number c.now.fun here.found)
+  NowOf first = Now (moving first)
 
   now_here : NowOf maps₀ g m
   now_here = record {
@@ -199,8 +217,7 @@ module _ (p : Setting) (signatures : ℕ → Signature) (sh : Shaped p.core) (re
   moves_set go k [] (u ∷ us) i first h m' now ok are types mv le next e like = λ calm. over Stuck refl (λ e. absurd (cc))
   moves_set go k (q ∷ qs) [] i first h m' now ok are types mv le next e like = λ calm. over Stuck refl (λ e. absurd (cc))
   moves_set go k (q ∷ qs) (u ∷ us) i first h m' now ok are types mv le next e like =
-      good_take p (Stands p signatures) signatures number ty' (suc c.started) promised' first m.opened c ty_mine (less_more here.below)
-      (small_of p.core sh number c.now.fun here.found) h m' now effect.Moved q u _ are.0 ok.0 tt (λ e v m' like fits is now calm. (
+      good_take (moving first) h m' now effect.Moved q u _ are.0 ok.0 tt (λ e v m' like fits is now calm. (
         nothing_there (given (context p signatures number c.now.fun) h q) m' first i u now (types_first i u us types) (mv.2 i (omega arith)) calm.0,
         moves_set go k qs us (suc i) (set_at first (at c.started i) all_set) (given (context p signatures number c.now.fun) h q) _
             (moved (given (context p signatures number c.now.fun) h q) m' first i u v now (types_first i u us types) fits is calm.0) ok.1 are.1

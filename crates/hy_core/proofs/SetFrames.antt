@@ -18,7 +18,7 @@ use Rattle.hy_core.proofs.CalmWalks.{Slots, at}
 use Rattle.hy_core.proofs.CalmFrames.{Sleeping, NotIn, LoopFlows, RestFlows, DeedOn, context}
 use Rattle.hy_core.proofs.SetMemories.{InitMaps, Holds}
 use Rattle.hy_core.proofs.FlowStates.{becomes_self, becomes_on, Tells, tells_same}
-use Rattle.hy_core.proofs.SetWalks.{wholes, Tie, AllBound}
+use Rattle.hy_core.proofs.SetTies.{wholes, Tie, AllBound}
 
 -- FLOW STATES that tell less of each local
 

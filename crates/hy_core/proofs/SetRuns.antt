@@ -29,8 +29,9 @@ use Rattle.hy_core.proofs.Keys.{set_other}
 use Rattle.hy_core.proofs.FlowStates.{SignsSet, Tells, tells_resolved, resolved_untied}
 use Rattle.hy_core.proofs.SetValues.{truth_of, Meets, Sets, sets_single}
 use Rattle.hy_core.proofs.SetMemories.{kept_here, holds_told}
-use Rattle.hy_core.proofs.SetWalks.{wholes, tells_set_local, good_truth}
-use Rattle.hy_core.proofs.SetSteps.{here_after}
+use Rattle.hy_core.proofs.SetGood.{good_truth, Fine, over, stands, Good, good_next, Sure, good_some, good_turn}
+use Rattle.hy_core.proofs.SetTies.{wholes, tells_set_local, Tie}
+use Rattle.hy_core.proofs.SetSteps.{here_after, acting}
 use Rattle.hy_core.proofs.OpenPlaces.{Sound, nothing_open}
 use Rattle.hy_core.proofs.CalmWalks.{at, IsQuiet, good_quiet}
 use Rattle.hy_core.proofs.CalmWalks as calm
@@ -38,9 +39,9 @@ use Rattle.hy_core.proofs.CalmFrames.{AroundBy, LoopFlows, context}
 use Rattle.hy_core.proofs.CalmFrames as calm_frames
 use Rattle.hy_core.proofs.Stuck.{halted}
 use Rattle.hy_core.proofs.FlowIsCalm.{step_good, start_fine, flow_touches_calmly, flow_closes_its_own}
-use Rattle.hy_core.proofs.SetWalks.{Fine, over, stands, Good, good_next, Sure, good_some, good_turn, local_whole, Tie}
+use Rattle.hy_core.proofs.SetWalks.{local_whole}
 use Rattle.hy_core.proofs.SetFrames.{SameInit, less_self, flows_less, WorkSet, BreakSet, AgainSet, break_set, again_set, Stands}
-use Rattle.hy_core.proofs.SetSteps.{small_of, Here, here_work, here_less, here_stands, now_here, built_set, set_set, move_set, copy_set, drop_set, lend_set}
+use Rattle.hy_core.proofs.SetSteps.{Here, here_work, here_less, here_stands, now_here, built_set, set_set, move_set, copy_set, drop_set, lend_set}
 use Rattle.hy_core.proofs.SetSteps.{close_set}
 use Rattle.hy_core.proofs.SetDrops.{drop_begins, tasks_set}
 use Rattle.hy_core.proofs.SetBodies.{leave_set, slide_set, yield_set}
@@ -160,8 +161,7 @@ module _ (p : Setting) (signatures : ℕ → Signature) (signs : (n : ℕ) → s
         → ((b : Bool) → Here p signatures c m number (where_is (context p signatures number c.now.fun) g on b) → Sure p S (go b) m)
         → Sure p S (Fetch (whole (key c on)) (λ v. with_flag c v go)) m
     flag_set on go has set next calm = good_truth p S c (m.value (key c on)) go m
-        (local_whole p (Stands p signatures) signatures number here.ty c.started here.promised here.maps m.opened c here.locals here.below
-        (small_of p.core sh number c.now.fun here.found) g m (now_here p signatures sh c m number g here)
+        (local_whole (acting p signatures sh c m number g here) g m (now_here p signatures sh c m number g here)
         on has.0 has.1 (ap parts_of has.2) set calm.0.kept) (λ b is. next b (here_where on b has calm.0.kept is)) calm.1
 
     statement_set : (a : Around (context p signatures number c.now.fun)) (s : Stmt) (d : FlowState)

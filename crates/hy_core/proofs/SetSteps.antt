@@ -36,9 +36,12 @@ use Rattle.hy_core.proofs.SetValues.{truth_of, with_map_apart, map_below, leaf_b
 use Rattle.hy_core.proofs.SetValues.{sets_exact, sets_inner, sets_part, sets_single, sets_whole, all_sets}
 use Rattle.hy_core.proofs.FlowStates.{Tells, tells_set, tells_same, tells_less}
 use Rattle.hy_core.proofs.SetMemories.{InitMaps, NotAway, Holds, holds_lend, holds_closed, BackOk}
-use Rattle.hy_core.proofs.SetWalks.{Fine, over, stands, Sure, good_some, with_rel, wholes, tells_change, tells_set_local, untied_with, MayLeave}
-use Rattle.hy_core.proofs.SetWalks.{EndsAt, still_exact, still_array, LoanTie, LoanType, Tie, Now, typed_at}
-use Rattle.hy_core.proofs.SetWalks.{local_sets, fits_there, spot_set, spot_blank, spot_store, good_read, good_take, good_write, built_good, AllBound}
+use Rattle.hy_core.proofs.SetGood.{Fine, over, stands, Sure, good_some}
+use Rattle.hy_core.proofs.SetTies.{with_rel, wholes, tells_change, tells_set_local, untied_with, EndsAt, still_exact, still_array, LoanTie, LoanType, Tie}
+use Rattle.hy_core.proofs.SetTies.{AllBound}
+use Rattle.hy_core.proofs.SetWalks.{MayLeave, Acting, Now, typed_at, local_sets, fits_there, spot_set, spot_blank, spot_store, good_read, good_take}
+use Rattle.hy_core.proofs.SetWalks.{good_write}
+use Rattle.hy_core.proofs.SetOperations.{built_good}
 use Rattle.hy_core.proofs.SetFrames.{SameInit, flows_less, WorkSet, Runs_on, CallersSet, AsleepSet, Stands, Changes, frame_keep, callers_keep}
 
 all_get : {A : Type 0} (P : A → Type 0) (xs : List A) (l : ℕ) (t : A) → all P xs → slice_get xs l ≡ Some t → P t
@@ -221,9 +224,26 @@ module _ (p : Setting) (signatures : ℕ → Signature) where
     pub small : (l : ℕ) (t : TyId) → local_type c.now.fun l ≡ Some t → IsSmall p.core.types t
     small = small_of p.core sh number c.now.fun here.found
 
+    -- the activation that runs
+    abbrev pub acting : Acting
+    acting = record {
+      p = p;
+      S = Stands p signatures;
+      signatures = signatures;
+      number = number;
+      ty = here.ty;
+      n = c.started;
+      P = here.promised;
+      first = here.maps;
+      slots = m.opened;
+      k₀ = c;
+      local = here.locals;
+      below_n = here.below;
+      small = small_of p.core sh number c.now.fun here.found;
+    }
+
     abbrev pub NowOf : FlowState → Copies → Type 0
-    NowOf = Now p (Stands p signatures) signatures number here.ty c.started here.promised here.maps m.opened c here.locals here.below
-        (small_of p.core sh number c.now.fun here.found)
+    NowOf = Now acting
 
     pub now_here : NowOf g m
     now_here = record {
@@ -330,31 +350,27 @@ module _ (p : Setting) (signatures : ℕ → Signature) where
         → ((e : Control) (v : Val) (m' : Copies) → Like c e → Fits p.core.types (form p.core.types u) v → is_whole v ≡ true → NowOf (given x h place) m'
         → Sure p S (go e v) m') → (e : Control) → Like c e → Sure p S (take_as fate p e place go) m'
     takes fate h m' now place u go of ok leave next e like =
-        good_take p (Stands p signatures) signatures number here.ty c.started here.promised here.maps m.opened c here.locals here.below
-        (small_of p.core sh number c.now.fun here.found) h m' now fate place u go of ok leave next e like
+        good_take acting h m' now fate place u go of ok leave next e like
 
     pub writes : (h : FlowState) (m' : Copies) → NowOf h m' → (place : Place) (u : TyId) (v : Val) (go : Control → Interaction Control)
         → IsOf p.core c.now.fun u place → StoreOk x h place → Fits p.core.types (form p.core.types u) v → is_whole v ≡ true
         → ((e : Control) (m' : Copies) → Like c e → NowOf (stored x h place) m' → Sure p S (go e) m') → (e : Control) → Like c e
         → Sure p S (write p e place v go) m'
     writes h m' now place u v go of ok fits whole next e like =
-        good_write p (Stands p signatures) signatures number here.ty c.started here.promised here.maps m.opened c here.locals here.below
-        (small_of p.core sh number c.now.fun here.found) h m' now place u v go of ok fits whole next e like
+        good_write acting h m' now place u v go of ok fits whole next e like
 
     -- STATEMENTS that open and close nothing
 
     pub built_set : (o : Operator) (to : Option Place) (from : List Place) (spans : List ℕ) (d : FlowState) → TransfersBuilt x o to from g d
         → IsBuilt p.core c.now.fun o to from spans → Left d → Sure p S (built p c o to from spans) m
     built_set o to from spans d t is w =
-        built_good p (Stands p signatures) signatures number here.ty c.started here.promised here.maps m.opened c here.locals here.below
-        (small_of p.core sh number c.now.fun here.found) d (λ h e m' like now flows. done d w h e m' like now flows) g m now_here o to from spans t is c
+        built_good acting d (λ h e m' like now flows. done d w h e m' like now flows) g m now_here o to from spans t is c
         (like_self c)
 
     pub set_set : (to : Place) (k : ℤ) (u : TyId) (d : FlowState) → IsOf p.core c.now.fun u to → IsConstant p.core c.now.fun (form p.core.types u) k
         → StoreOk x g to → FlowsInto x (set_to x g to k) d → Left d → Sure p S (does p c (Set to k)) m
     set_set to k u d of con ok flows w =
-        spot_store p (Stands p signatures) signatures number here.ty c.started here.promised here.maps m.opened c here.locals here.below
-        (small_of p.core sh number c.now.fun here.found) g m now_here to u _ of ok (λ e m' s like store.
+        spot_store acting g m now_here to u _ of ok (λ e m' s like store.
         good_some p S e (constant (form p.core.types u) k) _ m' (λ v is calm.
         let f = has_constant p.core c.now.fun (form p.core.types u) u k refl con in
         let z : f.0 ≡ v = some_val f.0 v (sym f.1 ∙ is) in
@@ -379,8 +395,7 @@ module _ (p : Setting) (signatures : ℕ → Signature) where
     pub copy_set : (to from : Place) (u : TyId) (d : FlowState) → IsOf p.core c.now.fun u to → IsOf p.core c.now.fun u from → ReadOk x g from
         → StoreOk x g to → FlowsInto x (stored x g to) d → Left d → Sure p S (does p c (Copy to from)) m
     copy_set to from u d to_of from_of ok store flows w =
-        good_read p (Stands p signatures) signatures number here.ty c.started here.promised here.maps m.opened c here.locals here.below
-        (small_of p.core sh number c.now.fun here.found) g m now_here from u _ from_of ok
+        good_read acting g m now_here from u _ from_of ok
         (λ e v like fits whole. by e v (charge v e.turns e.opened) like fits whole) c (like_self c)
       where
         by : (e : Control) (v : Val) (y : Charge) → Like c e → Fits p.core.types (form p.core.types u) v → is_whole v ≡ true
@@ -478,8 +493,7 @@ module _ (p : Setting) (signatures : ℕ → Signature) where
           still_exact p.core.types (local_type c.now.fun place.local) place.steps u exact of.0 in
           lent m' now (still place.steps) (map_at (still place.steps) (now.maps (mine place.local)))
           (subst (λ b. EndsAt b (still place.steps) (still place.steps)) (sym exact) refl)
-          (typed_at p (Stands p signatures) signatures number here.ty c.started here.promised here.maps m.opened c here.locals here.below
-          (small_of p.core sh number c.now.fun here.found) g m' now place.local (still place.steps) u is)
+          (typed_at acting g m' now place.local (still place.steps) u is)
           (λ q leaf. subst (λ s. Tells (after m' now) s (map_at (still place.steps) (now.maps (mine place.local)) q))
           (sym (ap (λ b. opened_map x g place b q) exact ∙ map_below (still place.steps) (g.init place.local) q))
           (part_covered (local_type c.now.fun place.local) refl is q leaf))
@@ -507,8 +521,7 @@ module _ (p : Setting) (signatures : ℕ → Signature) where
           part_sets None e is kept = absurd (cc)
           part_sets (Some t) e is kept =
               sets_part p.core.types t u (now.maps (mine place.local)) (m'.value (mine place.local)) (still place.steps)
-              (local_sets p (Stands p signatures) signatures number here.ty c.started here.promised here.maps m.opened c here.locals here.below
-              (small_of p.core sh number c.now.fun here.found) g m' now place.local t e kept) is
+              (local_sets acting g m' now place.local t e kept) is
 
       lent_element : is_exact place.steps ≡ false → (r : Path) → EndsAt (is_exact place.steps) (still place.steps) r
           → (IsKept m (mine place.local) → is_whole (get r (m.value (mine place.local))) ≡ true)
@@ -520,8 +533,7 @@ module _ (p : Setting) (signatures : ℕ → Signature) where
           lent m now_here r all_set ends form_is (λ q leaf. subst (λ b. Tells (wholes (set_at here.maps (mine to) all_set) c.now.id)
           (opened_map x g place b q) IsSet) (sym exact) tt)
           (λ kept. sets_whole p.core.types u (get r (m.value (mine place.local)))
-          (fits_there p (Stands p signatures) signatures number here.ty c.started here.promised here.maps m.opened c here.locals here.below
-          (small_of p.core sh number c.now.fun here.found) g m now_here place.local r (form p.core.types u) form_is) (wh kept))
+          (fits_there acting g m now_here place.local r (form p.core.types u) form_is) (wh kept))
           (subst (LoanType p.core.types c.now.fun to loan) (sym exact) a) e like
 
     pub lend_set : (to : ℕ) (place : Place) (w : Bool) (u : TyId) (d : FlowState) → local_type c.now.fun to ≡ Some u → IsOf p.core c.now.fun u place
@@ -531,17 +543,14 @@ module _ (p : Setting) (signatures : ℕ → Signature) where
       where
         by : (b : Bool) → is_exact place.steps ≡ b → IsEntered x g place b → Sure p S (does p c (Lend to place true)) m
         by true exact entered =
-            spot_blank p (Stands p signatures) signatures number here.ty c.started here.promised here.maps m.opened c here.locals here.below
-            (small_of p.core sh number c.now.fun here.found) g m now_here place u _ of exact
+            spot_blank acting g m now_here place u _ of exact
             (λ e m' like now is. lent_part to place Writes u local of ok d flows left (is_counted place.steps) m' now exact e like) c (like_self c)
         by false exact entered =
-            spot_set p (Stands p signatures) signatures number here.ty c.started here.promised here.maps m.opened c here.locals here.below
-            (small_of p.core sh number c.now.fun here.found) g m now_here Writes place u _ of ok.indexes entered
+            spot_set acting g m now_here Writes place u _ of ok.indexes entered
             (λ e r like ends wh form_is. lent_element to place Writes u local of ok d flows left (is_counted place.steps) exact r ends wh form_is e like) c
             (like_self c)
     lend_set to place false u d local of ok flows left =
-        spot_set p (Stands p signatures) signatures number here.ty c.started here.promised here.maps m.opened c here.locals here.below
-        (small_of p.core sh number c.now.fun here.found) g m now_here Reads place u _ of ok.indexes ok.lendable
+        spot_set acting g m now_here Reads place u _ of ok.indexes ok.lendable
         (λ e r like ends wh form_is. by (is_exact place.steps) refl e r like ends wh form_is) c (like_self c)
       where
         by : (b : Bool) → is_exact place.steps ≡ b → (e : Control) (r : Path) → Like c e → EndsAt (is_exact place.steps) (still place.steps) r
