@@ -181,7 +181,7 @@ rows_shaped = record {
       small_number,
       (
         small_number,
-        (small_number, (small_number, (small_number, (small_number, (small_numbers, (small_rows, (small_truth, (small_unit, tt)))))))),
+        (small_number, (small_number, (small_number, (small_number, (small_numbers, (small_rows, (small_truth, (small_truth, (small_unit, tt))))))))),
       ),
     ),
   );

@@ -227,10 +227,10 @@ abbrev pub set_in_passes : Core
 set_in_passes = alone (Set (of 9) (pos 1) ∷ While Done 9 (stmts (tell NewArray 7 [] ∷ Drop (of 7) ∷ If 9 (stmts (Drop (of 8) ∷ tell NewArray 8 [] ∷ [])) Done
     ∷ Set (of 9) (pos 0) ∷ [])) ∷ Drop (of 8) ∷ Drop (of 9) ∷ leave 0)
 
--- ARRAYS OF ARRAYS: local 8 is one, 7 an array of numbers, 1 to 6 are numbers, 9 is a truth value
+-- ARRAYS OF ARRAYS: local 8 is one, 7 an array of numbers, 1 to 6 are numbers, 9 and 10 are truth values
 
 abbrev pub with_rows : List Stmt → Core
-with_rows ss = core (main (unit ∷ numbers_for 6 (numbers ∷ rows ∷ truth ∷ [])) (tell NewArray 8 [] ∷ int 1 0 ∷ (ss ++ Drop (of 1) ∷ leave 0)) ∷ [])
+with_rows ss = core (main (unit ∷ numbers_for 6 (numbers ∷ rows ∷ truth ∷ truth ∷ [])) (tell NewArray 8 [] ∷ int 1 0 ∷ (ss ++ Drop (of 1) ∷ leave 0)) ∷ [])
 
 -- two rows, of which one has an element
 abbrev pub two_rows : List Stmt
@@ -249,6 +249,21 @@ rows_loop = While (stmts (tell Count 2 (of 8 ∷ []) ∷ tell Lt 9 (of 1 ∷ of 
 
 abbrev pub rows_swapped_out : List Stmt
 rows_swapped_out = rows_loop ∷ Drop (of 9) ∷ Drop (of 2) ∷ []
+
+-- The rows of three, from the first to the last: while there is one after it, the k-th is swapped with the last one; then the last
+-- one is taken out, the number of its elements is printed, and it is freed.
+abbrev pub third_row : List Stmt
+third_row = tell NewArray 7 [] ∷ int 2 5 ∷ push 7 2 ∷ int 2 6 ∷ push 7 2 ∷ push 8 7 ∷ []
+
+abbrev pub rows_in_turn : List Stmt
+rows_in_turn = int 3 1 ∷ int 4 0 ∷ While (stmts (tell Count 2 (of 8 ∷ []) ∷ tell Lt 9 (of 1 ∷ of 2 ∷ []) ∷ [])) 9
+    (stmts (compute Sub 5 (of 2 ∷ of 3 ∷ []) ∷ tell Lt 10 (of 4 ∷ of 5 ∷ [])
+    ∷ If 10 (stmts (Built Swap None (of 8 ∷ of 4 ∷ of 5 ∷ []) (0 ∷ 0 ∷ []) ∷ [])) Done ∷ compute Pop 7 (of 8 ∷ [])
+    ∷ tell Count 6 (of 7 ∷ []) ∷ print (of 6) ∷ Built FreeArray None (of 7 ∷ []) [] ∷ compute Add 4 (of 4 ∷ of 3 ∷ [])
+    ∷ Drop (of 10) ∷ Drop (of 9) ∷ Drop (of 6) ∷ Drop (of 5) ∷ Drop (of 2) ∷ [])) ∷ Drop (of 9) ∷ Drop (of 4) ∷ Drop (of 3) ∷ Drop (of 2) ∷ []
+
+abbrev pub dropped_in_turn : Core
+dropped_in_turn = with_rows (two_rows ++ (third_row ++ (rows_in_turn ++ Drop (of 8) ∷ [])))
 
 abbrev pub freed_with_rows : Core
 freed_with_rows = with_rows (two_rows ++ Built FreeArray None (of 8 ∷ []) [] ∷ [])
@@ -288,6 +303,7 @@ pub record RowsFlow : Type 0 where
   pub dropped : FlowsNot dropped_with_rows
   pub without : Flows GivesUp freed_without_rows
   pub swapped_out : Flows GivesUp dropped_without_rows
+  pub in_turn : Flows GivesUp dropped_in_turn
   pub with_one : FlowsNot freed_with_one
   pub at_once : Flows GivesUp freed_at_once
   pub counted : Flows GivesUp only_counted
@@ -296,8 +312,9 @@ pub record RowsFlow : Type 0 where
   -- a run that frees or drops one with rows in it loses them
   pub freed_loses : IsDroppedRun (checked freed_with_rows 9) → ⊥
   pub dropped_loses : IsDroppedRun (checked dropped_with_rows 9) → ⊥
-  -- what a core that takes them out first shows in either memory
+  -- what cores that take them out first show in either memory
   pub runs : Shows (checked dropped_without_rows 9) 80 (done (pos 2 ∷ pos 1 ∷ []) 3 0)
+  pub runs_in_turn : Shows (checked dropped_in_turn 9) 120 (done (pos 1 ∷ pos 0 ∷ pos 2 ∷ []) 4 0)
 
 pub record DoubtfulFlow : Type 0 where
   pub read : NoFlow Deinitialises read_doubtful

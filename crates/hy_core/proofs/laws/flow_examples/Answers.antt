@@ -123,6 +123,7 @@ rows = record {
   dropped = refl;
   without = refl;
   swapped_out = refl;
+  in_turn = refl;
   with_one = refl;
   at_once = refl;
   counted = refl;
@@ -131,6 +132,7 @@ rows = record {
   freed_loses = λ h. lost ((h 9).1.1.1.1.1.1.1.1.0.0);
   dropped_loses = λ h. lost ((h 9).1.1.1.1.1.1.1.1.0.0);
   runs = (refl, refl);
+  runs_in_turn = (refl, refl);
 }
 
 pub returns-clause-rows : goal.returns-clause-rows
