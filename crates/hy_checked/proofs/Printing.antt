@@ -17,7 +17,7 @@ use Rattle.hy_object.specs.Words.{line_of}
 use Rattle.hy_object.proofs.OneEnd.{steps_add}
 use Rattle.hy_runs.specs.Lines.{Prints, out_faults}
 use Rattle.hy_runs.specs.Runs.{Appends, CountsCause, faults, told}
-use Rattle.hy_runs.proofs.Tellings.{some_front, told_more}
+use Rattle.hy_runs.proofs.Tellings.{some_front, some_line, told_more}
 use Rattle.hy_store.specs.declared.halt.Halt.TheVariants as halt
 use Rattle.hy_store.specs.Represents.{Ghosts, Represents}
 use Rattle.hy_checked.specs.declared.machine.Machine.{Machine}
@@ -114,6 +114,7 @@ module _ (object : Object) (m : Machine) (fun : Fun) (word : ℕ) (shown : Shown
             counts_are = sym w.simulates.represents.counts;
             piece = λ more. subst (λ (xs : List ℕ). StillTells mid new (Appends (take front.0 xs))) (sym (piece_is w.state more w.simulates)) front.1;
           },
+          λ more e. some_line shown n (sym (piece_is w.state more w.simulates) ∙ e),
         );
   }
   print_is_cut input mid new ended cause.NoMemory out = record {

@@ -13,7 +13,7 @@ use Rattle.hy_object.specs.States.{Stuck}
 use Rattle.hy_machine.specs.Machine.{State, code, does, fetched, step, steps}
 use Rattle.hy_runs.specs.Runs.{Appends}
 use Rattle.hy_runs.proofs.Tellings.{told_none, told_more}
-use Rattle.hy_machine.specs.Walks.{printed_by, piece, Unkept, standing, written, advanced, GoesOn, EndsRun, IsCut, IsEndAt, Executes, Walked, ComesToEnd}
+use Rattle.hy_machine.specs.Walks.{IsPart, printed_by, piece, Unkept, standing, written, advanced, GoesOn, EndsRun, IsCut, IsEndAt, Executes, Walked, ComesToEnd}
 use Rattle.hy_machine.specs.Walks.{ComesToStop, ComesToCut, Leads}
 use Rattle.hy_machine.proofs.Ends.{steps_add}
 
@@ -74,7 +74,7 @@ is_cut object m₀ m m' old mid new i c w h x =
       count = w.count;
       bytes = w.bytes;
       front = x.front;
-      short = x.short;
+      short = λ u. subst (λ o. IsPart c (printed_by (standing m u) o) x.front) (sym h) (x.short u);
       path = w.path;
       told = λ u. told_more old mid new w.bytes (take x.front (piece object (standing m u))) w.told
           (subst (λ o. StillTells mid new (Appends (take x.front (printed_by (standing m u) o)))) (sym h) (x.told u));

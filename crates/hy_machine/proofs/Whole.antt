@@ -45,22 +45,33 @@ seen_at : (input : List ℕ) (s : State) (o : Option Stop) (e : Stop) → o ≡ 
     seen input s o ≡ Some (record { output = s.output; stop = e; taken = length input - length s.input; counts = s.counts; journal = s.journal })
 seen_at input s o e h = rw h refl
 
-front_of : (c : RunCause) (front : ℕ) → IsPart c front → IsFront c front
-front_of cause.Input front h = absurd h
-front_of cause.Output front h = h
-front_of cause.NoMemory front h = h
+front_of : (c : RunCause) (line : List ℕ) (front : ℕ) → IsPart c line front → IsFront c line front
+front_of cause.Input line front h = absurd h
+front_of cause.Output line front h = h
+front_of cause.NoMemory line front h = h
 
 -- no input is read
-pub reads_nothing : (c : RunCause) (front : ℕ) → IsPart c front → c ≢ cause.Input
-reads_nothing cause.Input front h = absurd h
-reads_nothing cause.Output front h = λ e. cc
-reads_nothing cause.NoMemory front h = λ e. cc
+reads_nothing : (c : RunCause) (line : List ℕ) (front : ℕ) → IsPart c line front → c ≢ cause.Input
+reads_nothing cause.Input line front h = absurd h
+reads_nothing cause.Output line front h = λ e. cc
+reads_nothing cause.NoMemory line front h = λ e. cc
 
 -- the faults of a run that is cut off
-pub counts_cause : (c : RunCause) (front i k k' : ℕ) → IsPart c front → k' ≡ faults_of k (halt.Cut c) → CountsCause c (faults i k) (faults i k')
-counts_cause cause.Input front i k k' h e = absurd h
-counts_cause cause.Output front i k k' h e = (refl, e)
-counts_cause cause.NoMemory front i k k' h e = (refl, e)
+-- what is not kept does not matter
+nothing_kept : Unkept
+nothing_kept = record { input = []; output = []; left = 0; journal = [] }
+
+pub cut_reads_nothing : (object : Object) (m m' : Machine) (old new : Option (List ℕ)) (c : RunCause) → ComesToCut object m m' old new c → c ≢ cause.Input
+cut_reads_nothing object m m' old new c x = reads_nothing c (piece object (standing m' nothing_kept)) x.front (x.short nothing_kept)
+
+counts_so : (c : RunCause) (i k k' : ℕ) → c ≢ cause.Input → k' ≡ faults_of k (halt.Cut c) → CountsCause c (faults i k) (faults i k')
+counts_so cause.Input i k k' h e = absurd (h refl)
+counts_so cause.Output i k k' h e = (refl, e)
+counts_so cause.NoMemory i k k' h e = (refl, e)
+
+pub counts_cause : (object : Object) (m m' : Machine) (old new : Option (List ℕ)) (c : RunCause) (i k k' : ℕ) → ComesToCut object m m' old new c
+    → k' ≡ faults_of k (halt.Cut c) → CountsCause c (faults i k) (faults i k')
+counts_cause object m m' old new c i k k' x e = counts_so c i k k' (cut_reads_nothing object m m' old new c x) e
 
 words_at : (o : Option Fun) (main : Fun) → o ≡ Some main → words_of o ≡ main.words
 words_at o main h = rw h refl
@@ -141,7 +152,8 @@ module _ (object : Object) (n : ℕ) (in_grammar : IsInGrammar object) (built : 
           input = input;
           steps = x.count;
           front = x.front;
-          short = front_of c x.front x.short;
+          short = subst (λ line. IsFront c line x.front) (piece_is input x.count going)
+              (front_of c (piece object s) x.front (subst (λ s. IsPart c (piece object s) x.front) (sym same) (x.short (written u x.bytes))));
           going = now.stop ∙ going;
           counts = ap (λ s. s.counts) (sym same) ∙ sym now.counts;
           taken = taken_none tape (after object input false n x.count).input (now.input ∙ ap (λ s. s.input) same);
@@ -151,6 +163,6 @@ module _ (object : Object) (n : ℕ) (in_grammar : IsInGrammar object) (built : 
 
     pub cut_off : (m' : Machine) (tape : Option Tape) (old new : Option (List ℕ)) (c : RunCause) → ComesToCut object m m' old new c →
         WasCutOff object n (told tape old) (told tape new) (record { cause = c; counts = m'.counts })
-    cut_off m' tape old new cause.Input x = absurd x.short
+    cut_off m' tape old new cause.Input x = absurd (x.short nothing_kept)
     cut_off m' tape old new cause.Output x = cut_at m' tape old new cause.Output x
     cut_off m' tape old new cause.NoMemory x = inl (cut_at m' tape old new cause.NoMemory x)

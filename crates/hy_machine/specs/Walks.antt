@@ -23,10 +23,10 @@ use Rattle.hy_runs.specs.Lines.{out_faults}
 use Rattle.hy_runs.specs.Runs.{Appends}
 
 -- How much of a line may have gone out before an instruction was cut off. None that is built reads.
-abbrev pub IsPart : RunCause → ℕ → Type 0
-IsPart cause.Input front = ⊥
-IsPart cause.Output front = Unit {0}
-IsPart cause.NoMemory front = front ≡ 0
+abbrev pub IsPart : RunCause → (line : List ℕ) → (front : ℕ) → Type 0
+IsPart cause.Input line front = ⊥
+IsPart cause.Output line front = line ≢ []
+IsPart cause.NoMemory line front = front ≡ 0
 
 -- WHAT AN INSTRUCTION WRITES
 
@@ -103,7 +103,7 @@ pub record EndsRun (object : Object) (i : Instr) (m m' : Machine) (old new : Opt
 pub record IsCut (i : Instr) (m m' : Machine) (old new : Option (List ℕ)) (c : RunCause) : Type 0 where
   pub same : m' ≡ m
   pub front : ℕ
-  pub short : IsPart c front
+  pub short : (u : Unkept) → IsPart c (printed_by (standing m u) (Some i)) front
   pub told : (u : Unkept) → StillTells old new (Appends (take front (printed_by (standing m u) (Some i))))
 
 -- what an instruction does to machine and output, by its answer
@@ -149,7 +149,7 @@ pub record ComesToCut (object : Object) (m m' : Machine) (old new : Option (List
   pub count : ℕ
   pub bytes : List ℕ
   pub front : ℕ
-  pub short : IsPart c front
+  pub short : (u : Unkept) → IsPart c (piece object (standing m' u)) front
   pub path : (u : Unkept) → steps object count (standing m u) ≡ standing m' (written u bytes)
   pub told : (u : Unkept) → StillTells old new (Appends (bytes ++ take front (piece object (standing m' u))))
 
@@ -164,5 +164,5 @@ abbrev pub Prints : List Cell → ℕ → Shown → Option (List ℕ) → Option
 Prints frame word shown old new (Ok done) = (n : ℤ) × (word_of (slice_get frame word) ≡ Ok n) × StillTells old new (Appends (line_of shown n))
 Prints frame word shown old new (Err (halt.Ended e)) = ⊥
 Prints frame word shown old new (Err (halt.Stuck why)) = (word_of (slice_get frame word) ≡ Err (halt.Stuck why)) × (new ≡ old)
-Prints frame word shown old new (Err (halt.Cut c)) = (n : ℤ) × (front : ℕ) × (word_of (slice_get frame word) ≡ Ok n) × IsPart c front
+Prints frame word shown old new (Err (halt.Cut c)) = (n : ℤ) × (front : ℕ) × (word_of (slice_get frame word) ≡ Ok n) × IsPart c (line_of shown n) front
     × StillTells old new (Appends (take front (line_of shown n)))

@@ -1,9 +1,14 @@
 -- What a source or a sink tells over several calls.
-use Rattle.std.proofs.Common.{◌≡◌, ℕ, List, [], ◌∷◌, ◌++◌, take, Option, Some, None, Ok, Err, refl, sym, ap, ◌∙◌, subst}
+use Rattle.std.proofs.Common.{◌≡◌, ◌≢◌, ℕ, ℤ, Bool, true, false, List, [], ◌∷◌, ◌++◌, take, Option, Some, None, Ok, Err, refl, sym, ap, ◌∙◌, subst}
+use Rattle.std.specs.Fmt.{signed_decimal}
+use Rattle.std.specs.Prelude.{if◌then◌else◌, codes}
 use Rattle.std.proofs.lemmas.List.{append-nil, append_assoc}
 use Rattle.hy_base.specs.declared.streams.Failed.{Failed}
 use Rattle.hy_base.specs.Outside.{StillTells}
 use Rattle.hy_base.specs.Streams.{Tape, Takes}
+use Rattle.hy_object.specs.declared.instr.Shown.{Shown}
+use Rattle.hy_object.specs.declared.instr.Shown.TheVariants as shown
+use Rattle.hy_object.specs.Words.{line_of, is_zero}
 use Rattle.hy_runs.specs.Runs.{Appends, AllTaken}
 use Rattle.hy_runs.specs.Taking.{IsAtEnd}
 
@@ -28,6 +33,19 @@ pub some_front : (old new : Option (List ℕ)) (line : List ℕ) → StillTells 
 some_front old None line h = (0, tt)
 some_front None (Some new) line h = absurd h
 some_front (Some old) (Some new) line h = h
+
+-- a line has bytes
+not_nil_after : (xs : List ℕ) (byte : ℕ) → xs ++ byte ∷ [] ≡ [] → ⊥
+not_nil_after [] byte e = cc
+not_nil_after (x ∷ xs) byte e = cc
+
+pub some_line : (shown : Shown) (n : ℤ) → line_of shown n ≢ []
+some_line shown.Int n = λ e. not_nil_after (signed_decimal n) 10 e
+some_line shown.Bool n = if_line (is_zero n)
+  where
+    if_line : (b : Bool) → (if b then codes "false" ++ 10 ∷ [] else codes "true" ++ 10 ∷ []) ≢ []
+    if_line true = λ e. cc
+    if_line false = λ e. cc
 
 -- INPUT
 
