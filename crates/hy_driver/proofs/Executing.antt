@@ -386,6 +386,7 @@ module _ (words : List (List ℕ)) (files_before files_after : Filed) (before af
     only = only_exec 10 it (omega arith) way;
     bad = λ file options bytes source quiet. (
       (λ is. bad_from file options bytes it is (from_file file options bytes it source way)),
-      (λ bad. (clauses.unless_prevented words files_before files_after before after it _ quiet (refuses_the_file it one_place way file options bytes bad.0 source bad.1).answer).0),
+      (λ bad. (clauses.unless_prevented words files_before files_after before after it _ quiet
+          (refuses_the_file it one_place way file options bytes bad.0 source bad.1).answer).0),
     );
   }

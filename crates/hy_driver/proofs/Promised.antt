@@ -73,7 +73,8 @@ module _ (words : List (List ℕ)) (files_before files_after : Filed) (before af
       }
 
   pub promises : (err_before err_after : Messages) (report : Report) → Laws → (it : Answer) → CallMayAnswer words files_before files_after before after it
-      → IsReported it err_before err_after report → KeepsFiles (c it) → Promises (seen_of words files_before files_after before after err_before err_after report)
+      → IsReported it err_before err_after report → KeepsFiles (c it)
+      → Promises (seen_of words files_before files_after before after err_before err_after report)
   promises err_before err_after report laws it way reported files =
       let so : Performs (c it) = performs laws it way files in
       record {

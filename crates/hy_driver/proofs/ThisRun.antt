@@ -101,7 +101,8 @@ module _ (words : List (List ℕ)) (files_before files_after : Filed) (before af
 
   -- AFTER A FAULT
 
-  all_out : (it : Answer) (left : List ℕ) (tree : Program) (object : Object) (ending : Ending) → IsCompiled tree object → IsInput (c it) left → IsRun object before after ending
+  all_out : (it : Answer) (left : List ℕ) (tree : Program) (object : Object) (ending : Ending) → IsCompiled tree object → IsInput (c it) left
+      → IsRun object before after ending
       → (n : ℕ) × StillTells before.out after.out (Appends (take n (mean tree left false turns).output))
   all_out it left tree object ending made input run =
       let ran = run.stopped.ran in
@@ -132,7 +133,8 @@ module _ (words : List (List ℕ)) (files_before files_after : Filed) (before af
   cut_by it left tree object fault made input cause.Input not_input cut = absurd (not_input refl)
   cut_by it left tree object fault made input cause.Output not_input cut = cut_out it left tree object fault made input cut
   cut_by it left tree object fault made input cause.NoMemory not_input (inl at) = cut_out it left tree object fault made input at
-  cut_by it left tree object fault made input cause.NoMemory not_input (inr off) = nothing_out before.out after.out (mean tree left false turns).output off.output
+  cut_by it left tree object fault made input cause.NoMemory not_input (inr off) =
+      nothing_out before.out after.out (mean tree left false turns).output off.output
 
   executes_out : (file bytes left : List ℕ) (tree : Program) (object : Object) (it : Answer) → IsCompiled tree object → IsInput (c it) left
       → RunMayAnswer file bytes object before after it

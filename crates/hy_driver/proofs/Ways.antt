@@ -1,16 +1,19 @@
 -- What is answered, with its message or without, on each way that a call may go.
-use Rattle.std.proofs.Common.{◌≡◌, ℕ, List, Some, Result, Ok, Err, String, Global, string_bytes, MatchResult, IfOk, inl, inr, ◌∙◌, ap, sym, subst}
+use Rattle.std.proofs.Common.{◌≡◌, ℕ, List, Some, Result, Ok, Err, String, Global, string_bytes, MatchResult, IfOk, inl, inr, refl, ◌∙◌, ap, sym, subst}
+use Rattle.hy_base.specs.declared.files.FileFault.{FileFault}
+use Rattle.hy_base.specs.declared.files.FileFault.TheVariants as f
 use Rattle.hy_base.specs.declared.run.Counts.{Counts}
 use Rattle.hy_base.specs.declared.run.Ending.{Ending}
 use Rattle.hy_base.specs.declared.run.RunFault.{RunFault}
 use Rattle.hy_base.specs.declared.refusal.NoMemory.{NoMemory}
+use Rattle.hy_base.specs.Files.{file_faults_after}
 use Rattle.hy_base.specs.First.{Refusal, IsFirst}
 use Rattle.hy_front.specs.Phases.{Breaks}
 use Rattle.hy_object.specs.Bytes.{bytes_of}
 use Rattle.hy_driver.specs.declared.top.CompiledSource.{CompiledSource}
 use Rattle.hy_driver.specs.Call.{Answer, Filed, Streams}
 use Rattle.hy_driver.specs.Course as w
-use Rattle.hy_driver.specs.Course.{answer, bare, ended_answer, IsEither, IsRun, IsCut, IsStopped, IsCutShort, RunMayAnswer}
+use Rattle.hy_driver.specs.Course.{answer, bare, unloaded_answer, ended_answer, IsEither, IsRun, IsCut, IsStopped, IsCutShort, RunMayAnswer}
 use Rattle.hy_driver.specs.Course.{FileMayAnswer, stopped_answer, SourceMayAnswer, CallMayAnswer, cause_message}
 use Rattle.hy_driver.specs.Kept.{cause_status}
 use Rattle.hy_driver.specs.Outside.{IsIdle}
@@ -20,6 +23,8 @@ use Rattle.hy_driver.specs.Texts.{out_of_memory, refusal_message, bad_object_mes
 use Rattle.hy_object.specs.declared.object.Object.{Object}
 use Rattle.hy_object.specs.States.{Stop}
 use Rattle.hy_words.specs.declared.words.Options.{Options}
+use Rattle.hy_words.specs.Asked.{Asked, file_of}
+use Rattle.hy_words.specs.Commands.{command_of}
 
 -- a message that is this text, or that memory ran out
 pub either_way : (message : Result (String Global) NoMemory) (it : Answer) (status : ℕ) (text object : List ℕ) (counts : Counts)
@@ -89,3 +94,13 @@ pub may_answer_as : {words : List (List ℕ)} {files_before files_after : Filed}
     → it ≡ one → CallMayAnswer words files_before files_after before after one → CallMayAnswer words files_before files_after before after it
 may_answer_as {words} {files_before} {files_after} {before} {after} is way =
     subst (λ it. CallMayAnswer words files_before files_after before after it) (sym is) way
+
+-- a file was not loaded
+pub not_loaded_so : (words : List (List ℕ)) (files_before files_after : Filed) (before after : Streams) (asked : Asked) (fault : FileFault) (it : Answer)
+    → command_of words ≡ Some asked → (fault ≡ f.Failed → files_before.load_may_fail (file_of asked))
+    → files_after.faults ≡ file_faults_after {T = Unit {0}} files_before.faults (Err fault) → IsIdle before after → it ≡ unloaded_answer fault
+    → CallMayAnswer words files_before files_after before after it
+not_loaded_so words files_before files_after before after asked f.Failed it command may faults idle is =
+    may_answer_as is (w.files_failed command (may refl) faults idle)
+not_loaded_so words files_before files_after before after asked f.NoMemory it command may faults idle is =
+    may_answer_as is (w.not_loaded command faults idle)

@@ -1,5 +1,7 @@
 -- The ways that a call may go, up to its message.
 use Rattle.std.specs.Prelude.{◌⊎◌, ◌≡◌, ◌≢◌, ℕ, suc, List, [], Some, None}
+use Rattle.hy_base.specs.declared.files.FileFault.{FileFault}
+use Rattle.hy_base.specs.declared.files.FileFault.TheVariants as fault
 use Rattle.hy_base.specs.declared.run.Counts.{Counts}
 use Rattle.hy_base.specs.declared.run.Ending.{Ending}
 use Rattle.hy_base.specs.declared.run.End.TheVariants.{Asks}
@@ -34,6 +36,11 @@ answer status message object counts = record { status = status; message = messag
 -- nothing was made
 abbrev pub bare : ℕ → List ℕ → Answer
 bare status message = answer status message [] no_counts
+
+-- a file that was not loaded
+abbrev pub unloaded_answer : FileFault → Answer
+unloaded_answer fault.Failed = bare 5 file_fault
+unloaded_answer fault.NoMemory = bare 8 out_of_memory
 
 -- a run that came to its end, of a file with this source
 abbrev pub ended_answer : List ℕ → List ℕ → List ℕ → Ending → Answer

@@ -126,6 +126,7 @@ pub fn write_reply<E: Sink>(err: &mut E, reply: Reply) -> Report
         lines,
     } = reply;
     let Ok(()) = write_message(err, &message) else {
+        // Nothing follows a message that fails.
         return output_failed(report);
     };
     let Err(_) = write_message(err, &lines) else {

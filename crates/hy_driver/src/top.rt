@@ -5,7 +5,7 @@ ghost use Rattle.hy_front.specs.Phases.{Breaks};
 ghost use Rattle.hy_words.specs.Asked.{ToRun, ToExec};
 ghost use Rattle.hy_words.specs.Commands.{command_of};
 ghost use Rattle.hy_words.specs.Reads.{word_at};
-ghost use Rattle.hy_driver.specs.Course.{CallMayAnswer, SourceMayAnswer, answer, bare, IsEither, ended_answer};
+ghost use Rattle.hy_driver.specs.Course.{CallMayAnswer, SourceMayAnswer, answer, bare, IsEither, ended_answer, unloaded_answer};
 ghost use Rattle.hy_driver.specs.Call.{call_seen, files_seen, streams_seen};
 ghost use Rattle.hy_driver.specs.Promises.{Promises};
 ghost use Rattle.hy_driver.specs.Texts.{out_of_memory, refusal_message};
@@ -107,6 +107,16 @@ fn run_source<I: Source, K: Sink>(
     }
 }
 
+// A file that was not loaded.
+fn not_loaded(alloc: Global, fault: FileFault) -> Reply
+    ensures { answer_of result ≡ unloaded_answer fault }
+{
+    match fault {
+        FileFault::Failed => bare(alloc, 5, FILE_FAULT),
+        FileFault::NoMemory => bare(alloc, 8, OUT_OF_MEMORY),
+    }
+}
+
 // `run FILE`, up to its message.
 fn run_file<F: Files, I: Source, K: Sink>(
     alloc: Global,
@@ -125,8 +135,7 @@ fn run_file<F: Files, I: Source, K: Sink>(
 {
     match files.load(alloc, file, LONGEST) {
         Ok(source) => run_source(alloc, file, &source, input, out),
-        Err(FileFault::Failed) => bare(alloc, 5, FILE_FAULT),
-        Err(FileFault::NoMemory) => bare(alloc, 8, OUT_OF_MEMORY),
+        Err(fault) => not_loaded(alloc, fault),
     }
 }
 
@@ -150,8 +159,7 @@ fn exec_file<F: Files, I: Source, K: Sink>(
 {
     match files.load(alloc, file, LONGEST_OBJECT) {
         Ok(bytes) => execute_file(alloc, file, options, bytes, input, out),
-        Err(FileFault::Failed) => bare(alloc, 5, FILE_FAULT),
-        Err(FileFault::NoMemory) => bare(alloc, 8, OUT_OF_MEMORY),
+        Err(fault) => not_loaded(alloc, fault),
     }
 }
 
