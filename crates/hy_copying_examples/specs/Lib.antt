@@ -1,4 +1,6 @@
 pub mod Accounts
+pub mod Arrays
 pub mod Basics
 pub mod Lives
+pub mod Projections
 pub mod Rows

@@ -3,8 +3,10 @@
 #![tactic(auto)]
 
 ghost use Rattle.hy_copying_examples.specs.Accounts as accounts;
+ghost use Rattle.hy_copying_examples.specs.Arrays as array;
 ghost use Rattle.hy_copying_examples.specs.Basics as basic;
 ghost use Rattle.hy_copying_examples.specs.Lives as life;
+ghost use Rattle.hy_copying_examples.specs.Projections as projection;
 ghost use Rattle.hy_copying_examples.specs.Rows.{Hold};
 
 /// A program of some eighty lines, with traits, arrays and projections.
@@ -45,4 +47,34 @@ pub fn ends()
 /// When temporaries die.
 pub fn temporaries()
     ensures { Hold life.temporaries }
+{}
+
+/// Places that are lent to functions and methods.
+pub fn lent()
+    ensures { Hold projection.lent }
+{}
+
+/// Bound projections, and when they close.
+pub fn bound()
+    ensures { Hold projection.bound }
+{}
+
+/// Subscripts that yield.
+pub fn subscripts()
+    ensures { Hold projection.subscripts }
+{}
+
+/// Arrays and their members.
+pub fn arrays()
+    ensures { Hold array.arrays }
+{}
+
+/// Indices outside an array, and the last element of an empty one.
+pub fn array_traps()
+    ensures { Hold array.array_traps }
+{}
+
+/// Generic functions, and methods that a trait requires.
+pub fn generics()
+    ensures { Hold array.generics }
 {}
