@@ -5,6 +5,7 @@
 ghost use Rattle.hy_copying_examples.specs.Accounts as accounts;
 ghost use Rattle.hy_copying_examples.specs.Arrays as array;
 ghost use Rattle.hy_copying_examples.specs.Basics as basic;
+ghost use Rattle.hy_copying_examples.specs.Limits as limit;
 ghost use Rattle.hy_copying_examples.specs.Lives as life;
 ghost use Rattle.hy_copying_examples.specs.Projections as projection;
 ghost use Rattle.hy_copying_examples.specs.Rows.{Hold};
@@ -77,4 +78,24 @@ pub fn array_traps()
 /// Generic functions, and methods that a trait requires.
 pub fn generics()
     ensures { Hold array.generics }
+{}
+
+/// What `read` takes of inputs that are whole, bad, missing or cut.
+pub fn inputs()
+    ensures { Hold limit.inputs }
+{}
+
+/// One program with each number of turns that is too small for it.
+pub fn turns()
+    ensures { Hold limit.turns }
+{}
+
+/// The states of a run, before each of its events.
+pub fn states()
+    ensures { Hold limit.states }
+{}
+
+/// Integers of the sized types.
+pub fn sized()
+    ensures { Hold limit.sized }
 {}
