@@ -1,5 +1,5 @@
 -- What phrases of a source do: each gives something, with a new environment and state, or ends the run.
-use Rattle.std.specs.Prelude.{ℕ, zero, suc, ◌++◌, Bool, true, false, List, [], ◌∷◌, Option, Some, None}
+use Rattle.std.specs.Prelude.{ℕ, zero, suc, Bool, true, false, List, [], ◌∷◌, Option, Some, None}
 use Rattle.hy_base.specs.declared.position.Span.{Span}
 use Rattle.hy_base.specs.declared.run.End.TheVariants as end
 use Rattle.hy_base.specs.declared.run.TrapKind.{TrapKind}

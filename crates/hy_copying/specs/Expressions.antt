@@ -1,6 +1,6 @@
 -- What expressions do. The value parts of an expression are evaluated from left to right; what is left is an owned result, or a place
 -- that is still to be opened. How the expression is used says what becomes of that: it is read, lent, moved or filled.
-use Rattle.std.specs.Prelude.{ℕ, ℤ, pos, negsuc, Bool, true, false, List, [], ◌∷◌, Option, Some, None}
+use Rattle.std.specs.Prelude.{ℕ, ℤ, pos, negsuc, true, false, List, [], ◌∷◌, Option, Some, None}
 use Rattle.hy_base.specs.declared.numbers.IntegerType.TheVariants as integer
 use Rattle.hy_base.specs.declared.position.Span.{Span}
 use Rattle.hy_tree.specs.Tree as T
@@ -19,9 +19,9 @@ use Rattle.hy_check.specs.Uses as U
 use Rattle.hy_check.specs.Uses.{Use, Sig}
 use Rattle.hy_core.specs.Values.{Val, Unset, Number, Truth, Tuple, Product, Array, Vals, No, And}
 use Rattle.hy_copying.specs.Known.{Known, type_at, place_named, place_of_field, is_subscript}
-use Rattle.hy_copying.specs.Places.{Root, Local, Itself, Temporary, Located, Rooted, PartIn, ElementIn, YieldedIn, Arguments, NoArgument, Moved, Lent}
-use Rattle.hy_copying.specs.Places.{Entry, Owned, Env}
-use Rattle.hy_copying.specs.Does.{Does, Acts, ◌>>=◌, ◌>>◌, give, impossible, when, is_true, changes}
+use Rattle.hy_copying.specs.Places.{Local, Itself, Temporary, Located, Rooted, PartIn, ElementIn, YieldedIn, Arguments, NoArgument, Moved, Lent}
+use Rattle.hy_copying.specs.Places.{Owned}
+use Rattle.hy_copying.specs.Does.{Does, ◌>>=◌, ◌>>◌, give, impossible, when, is_true, changes}
 use Rattle.hy_copying.specs.Lives.{Later, first, rest, as_statement}
 use Rattle.hy_copying.specs.Opening.{Worked, with_open, calls, gives_only, reads, moves}
 use Rattle.hy_copying.specs.Operations.{operates, operates_alone, converts, integer_in, works, built}
@@ -263,10 +263,10 @@ abbrev mutual
     vs ← all_taken later elements
     give (Has (Array vs))
   ready later (T.IfElse choices otherwise at) =
-    results (chooses later choices
-    (do
-      of ← ready later otherwise
-      takes later of))
+      results (chooses later choices
+      (do
+        of ← ready later otherwise
+        takes later of))
 
   -- parts of a tuple, or elements of an array
   all_taken : Later → T.Exprs → Does Vals
@@ -311,12 +311,12 @@ abbrev mutual
   chooses later T.NoChoice otherwise = as_statement later otherwise
   chooses later (T.ThenChoice token condition value more) otherwise = do
     holds ← as_statement later
-      (do
-        of ← ready later condition
-        looked_at later (node_of condition) of)
+        (do
+          of ← ready later condition
+          looked_at later (node_of condition) of)
     when (is_true holds)
-      (as_statement later
+        (as_statement later
         (do
           of ← ready later value
           takes later of))
-      (chooses later more otherwise)
+        (chooses later more otherwise)

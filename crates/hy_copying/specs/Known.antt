@@ -1,12 +1,11 @@
 -- What is known of the nodes of a source that breaks no rule on names and types, and what it declares.
-use Rattle.std.specs.Prelude.{ℕ, suc, ◌==◌, ◌&&◌, ◌||◌, Bool as Truth, true, false, List, [], ◌∷◌, Option, Some, None, cond, option_map, slice_get}
+use Rattle.std.specs.Prelude.{ℕ, suc, ◌==◌, ◌&&◌, ◌||◌, Bool as Truth, false, List, [], ◌∷◌, Option, Some, None, cond, option_map}
 use Rattle.std.specs.Prelude.{unwrap_or, codes}
 use Rattle.std.specs.Str.{bytes_eq}
 use Rattle.hy_tree.specs.Tree as T
 use Rattle.hy_tree.specs.Findings.{meanings}
 use Rattle.hy_tree.specs.Names.{or, own_name}
 use Rattle.hy_tree.specs.Numbers.{nodes_stmts}
-use Rattle.hy_tree.specs.declared.declaration.CallableKind.{CallableKind}
 use Rattle.hy_tree.specs.declared.declaration.CallableKind.TheVariants as kind
 use Rattle.hy_tree.specs.declared.meant.Meant.{Meant}
 use Rattle.hy_tree.specs.declared.meant.Meant.TheVariants as meant
@@ -14,7 +13,7 @@ use Rattle.hy_tree.specs.declared.operator.Mode.{Mode}
 use Rattle.hy_types.specs.Types as Y
 use Rattle.hy_types.specs.Types.{PlainType}
 use Rattle.hy_signatures.specs.PlainTypes.{unit}
-use Rattle.hy_signatures.specs.Declarations.{Source, source_of, Field, fields_of, fields_among, members_of, named_type, callable_at, callable_among, same_kind}
+use Rattle.hy_signatures.specs.Declarations.{Source, source_of, Field, fields_among, members_of, named_type, callable_at, callable_among, same_kind}
 use Rattle.hy_check.specs.Facts.{Fact, facts, type_among, call_among}
 use Rattle.hy_check.specs.Uses.{Sig, same_mode}
 

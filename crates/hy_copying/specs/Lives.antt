@@ -1,13 +1,12 @@
 -- Copies, deinitialisation, and what is known of bodies while so many turns are left.
-use Rattle.std.specs.Prelude.{ℕ, zero, suc, ◌-◌, Bool, true, false, List, [], ◌∷◌, ◌++◌, length, Option, Some, None}
-use Rattle.hy_base.specs.declared.run.End.TheVariants as end
+use Rattle.std.specs.Prelude.{ℕ, zero, suc, ◌-◌, Bool, true, false, List, [], ◌∷◌, length, Option, Some, None}
 use Rattle.hy_tree.specs.declared.operator.Mode.{Mode}
 use Rattle.hy_tree.specs.declared.operator.Mode.TheVariants as mode
 use Rattle.hy_core.specs.Values.{Val, Unset, Number, Truth, Tuple, Product, Array, Vals, No, And, all_whole}
 use Rattle.hy_copying.specs.Known.{Known, deinit_of}
 use Rattle.hy_copying.specs.Runs.{State, Came, Returned, Yielded, Halted}
-use Rattle.hy_copying.specs.Places.{Root, Temporary, Entry, Standing, Owned, OnlyLent, Bound, Held, Env, value_of, without}
-use Rattle.hy_copying.specs.Does.{Outcome, Gives, Stops, Does, Acts, ◌>>=◌, ◌>>◌, give, nothing, impossible, count, turn, changes}
+use Rattle.hy_copying.specs.Places.{Temporary, Entry, Standing, Owned, OnlyLent, Bound, Held, value_of, without}
+use Rattle.hy_copying.specs.Does.{Stops, Does, Acts, ◌>>=◌, ◌>>◌, give, nothing, impossible, count, turn, changes}
 
 -- What costs a turn, once that is taken: the body that is declared at a node for a convention, with the values of its parameters;
 -- so many passes of a loop at most; and the parts of a product after its `deinit`.

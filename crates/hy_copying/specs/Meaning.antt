@@ -1,12 +1,10 @@
 -- The copying meaning of a source: what it writes and how it ends, as if every value were copied.
 use Rattle.std.specs.Prelude.{◌≡◌, ℕ, zero, suc, ◌-◌, Bool, List, [], length, Option, Some, None}
-use Rattle.hy_base.specs.declared.run.End.{End}
 use Rattle.hy_base.specs.declared.run.End.TheVariants as end
 use Rattle.hy_tree.specs.Tree as T
 use Rattle.hy_tree.specs.declared.operator.Mode.TheVariants as mode
 use Rattle.hy_copying.specs.Known.{Known, known_of, main_of}
-use Rattle.hy_copying.specs.Runs.{State, Halt, Ends, Before, Prints, Reads, Slid, Came, Returned, Yielded, Halted}
-use Rattle.hy_copying.specs.Places.{Env}
+use Rattle.hy_copying.specs.Runs.{State, Halt, Ends, Before, Prints, Reads, Came, Returned, Yielded, Halted}
 use Rattle.hy_copying.specs.Does.{Outcome, Gives, Yields, Stops, turn, halt}
 use Rattle.hy_copying.specs.Lives.{Later, deinitialises_parts}
 use Rattle.hy_copying.specs.Statements.{body_of}

@@ -1,5 +1,5 @@
 -- How places are opened and closed, and the four steps of a call.
-use Rattle.std.specs.Prelude.{ℕ, ◌==◌, ℤ, pos, negsuc, Bool, true, false, List, [], ◌∷◌, ◌++◌, reverse, Option, Some, None, unwrap_or, nat_lt}
+use Rattle.std.specs.Prelude.{ℕ, Bool, true, false, List, [], ◌∷◌, reverse, Option, Some, None}
 use Rattle.hy_base.specs.declared.position.Span.{Span}
 use Rattle.hy_base.specs.declared.run.TrapKind.TheVariants as trap
 use Rattle.hy_base.specs.declared.numbers.IntegerType.TheVariants as integer
@@ -15,12 +15,12 @@ use Rattle.hy_signatures.specs.Signatures.{Callee}
 use Rattle.hy_check.specs.Uses as U
 use Rattle.hy_check.specs.Uses.{Use, Sig}
 use Rattle.hy_core.specs.Operators.{index_in}
-use Rattle.hy_core.specs.Values.{Val, Unset, Number, Truth, Tuple, Product, Array, Vals, No, many, part, Selector, PartAt, ElementAt, Path}
+use Rattle.hy_core.specs.Values.{Val, Unset, Number, Truth, Tuple, Product, Array, many, part, PartAt, ElementAt, Path}
 use Rattle.hy_copying.specs.Known.{Known}
-use Rattle.hy_copying.specs.Runs.{State, Slid, Came, Returned, Yielded, Halted}
+use Rattle.hy_copying.specs.Runs.{Came, Returned, Yielded, Halted}
 use Rattle.hy_copying.specs.Places.{Root, Located, Rooted, PartIn, ElementIn, YieldedIn, Arguments, NoArgument, Moved, Lent, Opened, InEntry, InYielded, Openeds}
-use Rattle.hy_copying.specs.Places.{NoneOpen, NotOpen, AlsoOpen, temporaries_in, inner, put_at, Env, value_of, put_in, hold}
-use Rattle.hy_copying.specs.Does.{Outcome, Gives, Stops, Does, Acts, ◌>>=◌, ◌>>◌, give, nothing, traps, impossible, when, count, turn, changes, slides}
+use Rattle.hy_copying.specs.Places.{NoneOpen, NotOpen, AlsoOpen, temporaries_in, inner, put_at, value_of, put_in, hold}
+use Rattle.hy_copying.specs.Does.{Gives, Stops, Does, Acts, ◌>>=◌, ◌>>◌, give, nothing, traps, impossible, when, count, turn, changes, slides}
 use Rattle.hy_copying.specs.Lives.{Later, first, rest, deinitialises, let_all_go}
 
 -- BY USE

@@ -1,8 +1,7 @@
 -- What operators, conversions and the predeclared functions and members do with the values of their arguments.
-use Rattle.std.specs.Prelude.{ℕ, ◌==◌, ℤ, pos, Bool, true, false, not, List, [], ◌∷◌, ◌++◌, Option, Some, None, Result, Ok, Err, cond, int_lt, int_le}
+use Rattle.std.specs.Prelude.{ℕ, ◌==◌, ℤ, pos, Bool, not, List, [], ◌∷◌, ◌++◌, Option, Some, None, Result, Ok, Err, cond, int_lt, int_le}
 use Rattle.hy_base.specs.Lines as L
 use Rattle.hy_base.specs.Lines.{Got, read_line}
-use Rattle.hy_base.specs.declared.numbers.IntegerType.{IntegerType}
 use Rattle.hy_base.specs.declared.numbers.IntegerType.TheVariants as integer
 use Rattle.hy_base.specs.declared.numbers.Operation.{Operation}
 use Rattle.hy_base.specs.declared.numbers.Operation.TheVariants as operation
@@ -16,14 +15,14 @@ use Rattle.hy_tree.specs.declared.operator.Operator.{Operator}
 use Rattle.hy_tree.specs.declared.operator.Operator.TheVariants as operator
 use Rattle.hy_tree.specs.declared.operator.UnaryOperator.{UnaryOperator}
 use Rattle.hy_tree.specs.declared.operator.UnaryOperator.TheVariants as unary
-use Rattle.hy_tree.specs.declared.predeclared.TheConstants.{PRINT, READ, PRECONDITION, COUNT, APPEND, REMOVE_LAST, SWAP_AT, COPY}
+use Rattle.hy_tree.specs.declared.predeclared.TheConstants.{PRINT, READ, PRECONDITION, COUNT, APPEND, REMOVE_LAST, SWAP_AT}
 use Rattle.hy_types.specs.Types as Y
 use Rattle.hy_types.specs.Types.{PlainType}
 use Rattle.hy_core.specs.Operators as O
 use Rattle.hy_core.specs.Operators.{index_in, at_end, popped, line_of}
 use Rattle.hy_core.specs.Values.{Val, Unset, Number, Truth, Tuple, Product, Array, Vals, No, And, many, nth, with_nth}
-use Rattle.hy_copying.specs.Runs.{State, Halt, Ends, Prints, Reads}
-use Rattle.hy_copying.specs.Does.{Gives, Stops, Does, Acts, ◌>>=◌, ◌>>◌, give, traps, impossible, when, is_true, happens}
+use Rattle.hy_copying.specs.Runs.{State, Ends, Prints, Reads}
+use Rattle.hy_copying.specs.Does.{Gives, Stops, Does, ◌>>=◌, ◌>>◌, give, traps, impossible, when, is_true, happens}
 use Rattle.hy_copying.specs.Lives.{Later, first, rest, copies}
 use Rattle.hy_copying.specs.Opening.{Worked, gives_only}
 

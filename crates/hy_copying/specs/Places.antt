@@ -1,5 +1,5 @@
 -- Places: where they begin, what is left to open once the values in them are known, and what is open.
-use Rattle.std.specs.Prelude.{ℕ, ◌==◌, ℤ, Bool, true, false, List, [], ◌∷◌, ◌++◌, Option, Some, None, cond, slice_get, unwrap_or, option_map}
+use Rattle.std.specs.Prelude.{ℕ, ◌==◌, ℤ, Bool, true, false, List, [], ◌∷◌, ◌++◌, Option, Some, None, cond, slice_get, unwrap_or}
 use Rattle.hy_base.specs.declared.position.Span.{Span}
 use Rattle.hy_types.specs.Types as Y
 use Rattle.hy_types.specs.Types.{PlainType, PlainTypes}

@@ -1,5 +1,5 @@
 -- What statements and bodies do.
-use Rattle.std.specs.Prelude.{ℕ, zero, suc, ◌-◌, ◌==◌, ◌||◌, Bool, true, false, List, [], ◌∷◌, ◌++◌, length, map, reverse, Option, Some, None}
+use Rattle.std.specs.Prelude.{ℕ, zero, suc, ◌-◌, ◌==◌, ◌||◌, Bool, false, List, [], ◌∷◌, ◌++◌, length, map, reverse, Option, Some, None}
 use Rattle.hy_base.specs.declared.position.Span.{Span}
 use Rattle.hy_tree.specs.Tree as T
 use Rattle.hy_tree.specs.declared.operator.Arithmetic.{Arithmetic}
@@ -8,18 +8,18 @@ use Rattle.hy_tree.specs.declared.operator.Introducer.TheVariants as introducer
 use Rattle.hy_tree.specs.declared.operator.Mode.{Mode}
 use Rattle.hy_tree.specs.declared.operator.Mode.TheVariants as mode
 use Rattle.hy_types.specs.Types.{PlainType}
-use Rattle.hy_signatures.specs.Declarations.{Source, callable_at}
+use Rattle.hy_signatures.specs.Declarations.{callable_at}
 use Rattle.hy_check.specs.Uses as U
 use Rattle.hy_check.specs.Uses.{Use, use_in, argument_use_by}
 use Rattle.hy_core.specs.Values.{Val, Unset}
 use Rattle.hy_copying.specs.Known.{Known, type_at, mentioned, owner_of, variant_for}
 use Rattle.hy_copying.specs.Runs.{State, Slid, Back, Late, Came, Returned, Yielded, Halted}
-use Rattle.hy_copying.specs.Places.{Root, Local, Itself, Temporary, Located, Arguments, NoArgument, Lent, Opened, lends, temporaries_of, and_last}
+use Rattle.hy_copying.specs.Places.{Root, Local, Itself, Temporary, Located, NoArgument, Lent, Opened, lends, temporaries_of, and_last}
 use Rattle.hy_copying.specs.Places.{Entry, Standing, Owned, OnlyLent, Bound, Held, Env}
 use Rattle.hy_copying.specs.Does.{Outcome, Gives, Yields, Stops, Does, Acts, ◌>>=◌, ◌>>◌, give, nothing, impossible, when, is_true, changes, declares}
 use Rattle.hy_copying.specs.Does.{take_newest, count, turn}
 use Rattle.hy_copying.specs.Lives.{Later, first, deinitialises, temporaries_die, as_statement, let_all_go}
-use Rattle.hy_copying.specs.Opening.{Worked, Place, opens, closes, put_back, holds, with_open, calls, gives_only, reads}
+use Rattle.hy_copying.specs.Opening.{Worked, Place, opens, closes, put_back, holds, with_open, calls}
 use Rattle.hy_copying.specs.Operations.{unit_value, computes}
 use Rattle.hy_copying.specs.Expressions.{Ready, Is, Has, Awaits, ready, placed, looked_at, takes, node_of}
 
@@ -261,11 +261,11 @@ loops later zero condition body = do
 loops later (suc n) condition body = do
   v ← condition
   when (is_true v)
-    (do
-      turn
-      course ← body
-      again course (loops later n condition body))
-    (give GoesOn)
+      (do
+        turn
+        course ← body
+        again course (loops later n condition body))
+      (give GoesOn)
 
 abbrev mutual
   executes : Later → T.Stmt → Does Course

@@ -1,4 +1,4 @@
-use Rattle.std.specs.Prelude.{ℕ, List, [], ◌∷◌, ◌++◌, codes}
+use Rattle.std.specs.Prelude.{List, [], ◌∷◌, codes}
 use Rattle.hy_check_examples.specs.Programs.{accounts}
 use Rattle.hy_copying_examples.specs.Rows.{Row, does, given, lines}
 

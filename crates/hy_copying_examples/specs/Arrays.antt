@@ -1,7 +1,7 @@
 -- Arrays: their members, elements, copies and deinitialisation.
-use Rattle.std.specs.Prelude.{ℕ, List, [], ◌∷◌, ◌++◌, codes}
+use Rattle.std.specs.Prelude.{List, [], ◌∷◌, ◌++◌, codes}
 use Rattle.hy_base.specs.declared.run.TrapKind.TheVariants as trap
-use Rattle.hy_copying_examples.specs.Rows.{Row, does, given, trapped, with_d, with_noisy}
+use Rattle.hy_copying_examples.specs.Rows.{Row, does, trapped, with_d, with_noisy}
 
 abbrev pub arrays : List Row
 arrays =

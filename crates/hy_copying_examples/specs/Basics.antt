@@ -1,5 +1,5 @@
 -- Operators, traps, branches, loops, calls.
-use Rattle.std.specs.Prelude.{ℕ, List, [], ◌∷◌, ◌++◌, codes}
+use Rattle.std.specs.Prelude.{List, [], ◌∷◌, ◌++◌, codes}
 use Rattle.hy_base.specs.declared.run.TrapKind.TheVariants as trap
 use Rattle.hy_copying_examples.specs.Rows.{Row, does, trapped, spent}
 

@@ -30,11 +30,15 @@ inputs =
     ∷ given (does (codes "1") one_read 1 0) (replicate 4095 48 ++ (49 ∷ 10 ∷ 50 ∷ [])) 4097
     ∷ given (does (codes "2") (codes "fun main() { print(read() - read()) }") 1 0) (lines (codes "5/3")) 4
     ∷ given (does (codes "5/true") (codes "fun main() { print(5); print(read() == 7 || read() == 8) }") 1 0) (lines (codes "6/8/9")) 4
-    ∷ asks (given (does (codes "5") two_reads 1 0) (lines (codes "5")) 2)
+    ∷ given (does (codes "5/6") two_reads 1 0) (codes "5" ++ (10 ∷ codes "6")) 3
+    ∷ []
+
+abbrev pub cut_inputs : List Row
+cut_inputs =
+    asks (given (does (codes "5") two_reads 1 0) (lines (codes "5")) 2)
     ∷ asks (given (does [] two_reads 1 0) (codes "5") 0)
     ∷ asks (does [] two_reads 1 0)
     ∷ trapped (asks (given (does [] one_read 1 0) (replicate 4097 49) 4097)) trap.Input
-    ∷ given (does (codes "5/6") two_reads 1 0) (codes "5" ++ (10 ∷ codes "6")) 3
     ∷ []
 
 abbrev limited : List ℕ

@@ -1,5 +1,5 @@
 -- Moves, deinitialisation, and the lives of variables and temporaries.
-use Rattle.std.specs.Prelude.{ℕ, List, [], ◌∷◌, ◌++◌, codes}
+use Rattle.std.specs.Prelude.{List, [], ◌∷◌, ◌++◌, codes}
 use Rattle.hy_copying_examples.specs.Rows.{Row, does, given, with_d}
 
 abbrev pub moves : List Row

@@ -1,5 +1,5 @@
 -- Places that are lent, bound projections, and subscripts that yield.
-use Rattle.std.specs.Prelude.{ℕ, List, [], ◌∷◌, ◌++◌, codes}
+use Rattle.std.specs.Prelude.{List, [], ◌∷◌, ◌++◌, codes}
 use Rattle.hy_base.specs.declared.run.TrapKind.TheVariants as trap
 use Rattle.hy_copying_examples.specs.Rows.{Row, does, trapped, with_d, with_s, with_noisy}
 
@@ -92,7 +92,11 @@ subscripts =
     ∷ does (codes "5/60/102/3/101")
     (codes "type Q { var n: Int  deinit { print(n + 100) } subscript it(): Int { let { yield n; print(60) } } } "
     ++ codes "fun h(_ q: Q, _ x: Int) -> Int { print(5); return x + q.n } fun main() { print(h(Q(n: 1), Q(n: 2).it[])) }") 5 6
-    ∷ trapped (does [] (codes "subscript t(_ x: yielded Int): Int { inout { yield &x; print(«1 / x») } } "
+    ∷ []
+
+abbrev pub subscript_traps : List Row
+subscript_traps =
+    trapped (does [] (codes "subscript t(_ x: yielded Int): Int { inout { yield &x; print(«1 / x») } } "
     ++ codes "fun main() { var u = 1; inout a = &t[&u]; a = 0; print(7) }") 2 3) trap.Divide
     ∷ trapped (does [] (codes "subscript t(_ x: yielded Int): Int { inout { «precondition(x > 0)»; yield &x } } "
     ++ codes "fun main() { var u = 0; inout a = &t[&u]; a = 0; print(7) }") 2 1) trap.Precondition

@@ -1,7 +1,6 @@
 -- What a row of a table says: a program, what it is given, and what is seen of its run.
 use Rattle.std.specs.Prelude.{◌≡◌, ℕ, ◌==◌, Bool, true, false, List, [], ◌∷◌, ◌++◌, Option, Some, None, Result, Ok, Err, codes, cond}
 use Rattle.hy_base.specs.declared.position.Span.{Span}
-use Rattle.hy_base.specs.declared.run.End.{End}
 use Rattle.hy_base.specs.declared.run.End.TheVariants as end
 use Rattle.hy_base.specs.declared.run.TrapKind.{TrapKind}
 use Rattle.hy_tree.specs.Numbers.{number_program}

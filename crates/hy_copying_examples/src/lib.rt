@@ -65,6 +65,11 @@ pub fn subscripts()
     ensures { Hold projection.subscripts }
 {}
 
+/// Traps in ramps and slides, and past projections.
+pub fn subscript_traps()
+    ensures { Hold projection.subscript_traps }
+{}
+
 /// Arrays and their members.
 pub fn arrays()
     ensures { Hold array.arrays }
@@ -80,9 +85,14 @@ pub fn generics()
     ensures { Hold array.generics }
 {}
 
-/// What `read` takes of inputs that are whole, bad, missing or cut.
+/// What `read` takes of inputs that are whole, bad or missing.
 pub fn inputs()
     ensures { Hold limit.inputs }
+{}
+
+/// Inputs that are a beginning only.
+pub fn cut_inputs()
+    ensures { Hold limit.cut_inputs }
 {}
 
 /// One program with each number of turns that is too small for it.

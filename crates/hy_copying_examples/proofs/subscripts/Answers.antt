@@ -12,5 +12,4 @@ unfolding step finish run Holds prefixed digits node.named_type node.self_type n
     node.unary node.marked node.chain node.block node.binding node.declare node.assign node.compound node.evaluate node.discard node.if_only node.if_block
     node.while node.return_nothing node.return_value node.leave node.proceed node.yield_value node.param node.plain_variant node.variant node.callable
     node.product node.trait node.conformance node.member node.decl node.program
-returns c = (refl, (refl, (refl, (refl, (refl, (refl, (refl, (refl, (refl, (refl, (refl, (refl, (refl, (refl, (refl, (refl, (refl, (refl, (refl,
-    (refl, tt))))))))))))))))))))
+returns c = (refl, (refl, (refl, (refl, (refl, (refl, (refl, (refl, (refl, (refl, (refl, (refl, (refl, (refl, (refl, (refl, (refl, tt)))))))))))))))))
