@@ -5,7 +5,7 @@ use Rattle.hy_base.specs.declared.run.End.TheVariants as end
 use Rattle.hy_base.specs.declared.run.TrapKind.{TrapKind}
 use Rattle.hy_tree.specs.Numbers.{number_program}
 use Rattle.hy_tree.specs.Tree as T
-use Rattle.hy_check_examples.specs.Reader.{Reading, reading, tree_of}
+use Rattle.hy_check_examples.specs.Reader.{Reading, reading, tree_of, Outcome, Sound, judged}
 use Rattle.hy_copying.specs.Runs.{Halt, Ends, Before, Event}
 use Rattle.hy_copying.specs.Meaning.{Report, run}
 
@@ -26,9 +26,17 @@ pub record Row : Type 0 where
 abbrev wanted : Row → Span → Report
 wanted r span = record { output = r.output; halt = r.halt span; taken = r.taken; turns = r.turns; opened = r.opened }
 
+-- what is seen of a program that breaks no rule on names and types
+abbrev if_sound : Outcome → Report → Option Report
+if_sound Sound seen = Some seen
+if_sound other seen = None
+
+abbrev meant_by : Row → T.Program → Option Report
+meant_by r p = if_sound (judged p) (run p r.input r.cut r.most r.events)
+
 abbrev meant : Row → Result T.Program ℕ → Option Report
 meant r (Err left) = None
-meant r (Ok tree) = Some (run (number_program tree) r.input r.cut r.most r.events)
+meant r (Ok tree) = meant_by r (number_program tree)
 
 abbrev holds : Row → Reading → Type 0
 holds r read = meant r (tree_of read.tokens) ≡ Some (wanted r read.wanted)

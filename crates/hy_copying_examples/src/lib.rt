@@ -7,6 +7,7 @@ ghost use Rattle.hy_copying_examples.specs.Arrays as array;
 ghost use Rattle.hy_copying_examples.specs.Basics as basic;
 ghost use Rattle.hy_copying_examples.specs.Limits as limit;
 ghost use Rattle.hy_copying_examples.specs.Lives as life;
+ghost use Rattle.hy_copying_examples.specs.Orders as order;
 ghost use Rattle.hy_copying_examples.specs.Projections as projection;
 ghost use Rattle.hy_copying_examples.specs.Rows.{Hold};
 
@@ -108,4 +109,19 @@ pub fn states()
 /// Integers of the sized types.
 pub fn sized()
     ensures { Hold limit.sized }
+{}
+
+/// Orders of evaluation.
+pub fn orders()
+    ensures { Hold order.orders }
+{}
+
+/// Subscripts that are suspended in others, and past which a run goes.
+pub fn suspended()
+    ensures { Hold order.suspended }
+{}
+
+/// Values that are set in part, and what is stored over.
+pub fn partial()
+    ensures { Hold order.partial }
 {}
