@@ -5,6 +5,8 @@ use Rattle.hy_base.specs.declared.run.End.TheVariants as end
 use Rattle.hy_base.specs.declared.run.TrapKind.{TrapKind}
 use Rattle.hy_tree.specs.Numbers.{number_program}
 use Rattle.hy_tree.specs.Tree as T
+use Rattle.hy_base.specs.First.{Refusal}
+use Rattle.hy_conv.specs.Conventions.{refusals}
 use Rattle.hy_check_examples.specs.Reader.{Reading, reading, tree_of, Outcome, Sound, judged}
 use Rattle.hy_copying.specs.Runs.{Halt, Ends, Before, Event}
 use Rattle.hy_copying.specs.Meaning.{Report, run}
@@ -26,13 +28,17 @@ pub record Row : Type 0 where
 abbrev wanted : Row → Span → Report
 wanted r span = record { output = r.output; halt = r.halt span; taken = r.taken; turns = r.turns; opened = r.opened }
 
--- what is seen of a program that breaks no rule on names and types
-abbrev if_sound : Outcome → Report → Option Report
-if_sound Sound seen = Some seen
+-- what is seen of a program that breaks no rule on names, types and conventions
+abbrev if_none : List Refusal → Report → Option Report
+if_none [] seen = Some seen
+if_none (broken ∷ more) seen = None
+
+abbrev if_sound : Outcome → Option Report → Option Report
+if_sound Sound seen = seen
 if_sound other seen = None
 
 abbrev meant_by : Row → T.Program → Option Report
-meant_by r p = if_sound (judged p) (run p r.input r.cut r.most r.events)
+meant_by r p = if_sound (judged p) (if_none (refusals p) (run p r.input r.cut r.most r.events))
 
 abbrev meant : Row → Result T.Program ℕ → Option Report
 meant r (Err left) = None
