@@ -15,16 +15,18 @@ use Rattle.hy_types.specs.Types.{PlainType}
 use Rattle.hy_signatures.specs.Declarations.{fields_of}
 use Rattle.hy_signatures.specs.Signatures as S
 use Rattle.hy_signatures.specs.Signatures.{Callee}
+use Rattle.hy_check.specs.Phrases.{first_use, rest_uses}
 use Rattle.hy_check.specs.Uses as U
 use Rattle.hy_check.specs.Uses.{Use, Sig}
 use Rattle.hy_core.specs.Values.{Val, Unset, Number, Truth, Tuple, Product, Array, Vals, No, And}
+use Rattle.hy_copying.specs.Kinds.{is_true, integer_in}
 use Rattle.hy_copying.specs.Known.{Known, type_at, place_named, place_of_field, is_subscript}
 use Rattle.hy_copying.specs.Places.{Local, Itself, Temporary, Located, Rooted, PartIn, ElementIn, YieldedIn, Arguments, NoArgument, Moved, Lent}
 use Rattle.hy_copying.specs.Places.{Owned}
-use Rattle.hy_copying.specs.Does.{Does, ◌>>=◌, ◌>>◌, give, impossible, when, is_true, changes}
+use Rattle.hy_copying.specs.Does.{Does, ◌>>=◌, ◌>>◌, give, impossible, when, changes}
 use Rattle.hy_copying.specs.Lives.{Later, first, rest, as_statement}
 use Rattle.hy_copying.specs.Opening.{Worked, with_open, calls, gives_only, reads, moves}
-use Rattle.hy_copying.specs.Operations.{operates, operates_alone, converts, integer_in, works, built}
+use Rattle.hy_copying.specs.Operations.{operates, operates_alone, converts, works, built, span_or}
 
 -- what is left of an expression once its value parts are evaluated
 pub data Ready : Type 0 where
@@ -112,10 +114,6 @@ moved_in NoArgument = No
 moved_in (Moved v more) = And v (moved_in more)
 moved_in (Lent used place more) = moved_in more
 
-abbrev first_span : List Span → Span → Span
-first_span [] span = span
-first_span (one ∷ more) span = one
-
 -- an index that is a place is read now
 abbrev indexes : Later → Span → Located → Arguments → Does Ready
 indexes later span array NoArgument = impossible
@@ -155,7 +153,7 @@ invokes later sig at spans arguments (S.Required requirement place) = results (c
 invokes later sig at spans arguments (S.Predeclared number) = results (with_open later false arguments (works later (built number) at.span spans))
 invokes later sig at spans arguments (S.Initialiser product) = give (Has (Product product (moved_in arguments)))
 invokes later sig at spans arguments (S.Conversion to) = results (with_open later false arguments (converted to at.span))
-invokes later sig at spans arguments S.Element = element later (first_span spans at.span) arguments
+invokes later sig at spans arguments S.Element = element later (span_or spans at.span) arguments
 
 -- a call at a step, on what stands before it, with its arguments in parentheses or brackets
 abbrev applies : Later → T.At → (node : ℕ) → (before : Ready) → Option Sig → (List Use → Does Arguments) → List Span → Does Ready
@@ -176,14 +174,6 @@ steps_to_member later at node before name (Some sig) = applies later at node bef
 abbrev spans_of : T.Args → List Span
 spans_of T.NoArg = []
 spans_of (T.ThenArg label value more) = (T.at_expr value).span ∷ spans_of more
-
-abbrev use_of_first : List Use → Use
-use_of_first [] = U.Read
-use_of_first (used ∷ more) = used
-
-abbrev uses_after : List Use → List Use
-uses_after [] = []
-uses_after (used ∷ more) = more
 
 -- OPERATORS
 
@@ -234,6 +224,7 @@ node_if (Some type) step before = step
 abbrev node_after : Known → (before : ℕ) → T.Step → ℕ
 node_after known before step = node_if (known.type (T.at_step step).node) (T.at_step step).node before
 
+-- the node of an expression
 abbrev pub node_of : T.Expr → ℕ
 node_of e = (T.at_expr e).node
 
@@ -302,8 +293,8 @@ abbrev mutual
   passed later T.NoArg uses = give NoArgument
   passed later (T.ThenArg label value more) uses = do
     of ← ready later value
-    one ← passes later (use_of_first uses) (node_of value) of
-    others ← passed later more (uses_after uses)
+    one ← passes later (first_use uses) (node_of value) of
+    others ← passed later more (rest_uses uses)
     give (one others)
 
   -- the value of the first `if` whose condition is true; conditions and values are statements of their own

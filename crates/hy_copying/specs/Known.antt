@@ -29,9 +29,11 @@ known_with source all = record { source = source; type = λ node. type_among nod
 abbrev known_in : Source → Known
 known_in source = known_with source (facts source)
 
+-- what is known of a numbered tree
 abbrev pub known_of : T.Program → Known
 known_of p = known_in (source_of (meanings p) p)
 
+-- the type of an expression, step, variable or parameter; `()` where it has none
 abbrev pub type_at : Known → ℕ → PlainType
 type_at known node = unwrap_or (known.type node) unit
 
@@ -114,6 +116,7 @@ abbrev is_subscript_kind : Option T.Callable → Truth
 is_subscript_kind None = false
 is_subscript_kind (Some c) = same_kind c.kind kind.Subscript
 
+-- whether a subscript is declared at a node
 abbrev pub is_subscript : Source → ℕ → Truth
 is_subscript source node = is_subscript_kind (callable_at node source.decls)
 

@@ -5,6 +5,7 @@ use Rattle.hy_tree.specs.Tree as T
 use Rattle.hy_copying.specs.Runs.{Ends}
 use Rattle.hy_copying.specs.Meaning.{mean}
 
+-- A run with no turns is spent, and has done nothing.
 abbrev pub NothingIsDoneWithoutATurn : Type 0
 NothingIsDoneWithoutATurn =
     (tree : T.Program) (input : List ℕ) (cut : Bool)

@@ -3,6 +3,7 @@ use Rattle.std.specs.Prelude.{ℕ, zero, suc, ◌-◌, Bool, true, false, List, 
 use Rattle.hy_tree.specs.declared.operator.Mode.{Mode}
 use Rattle.hy_tree.specs.declared.operator.Mode.TheVariants as mode
 use Rattle.hy_core.specs.Values.{Val, Unset, Number, Truth, Tuple, Product, Array, Vals, No, And, all_whole}
+use Rattle.hy_copying.specs.Kinds.{parts_in}
 use Rattle.hy_copying.specs.Known.{Known, deinit_of}
 use Rattle.hy_copying.specs.Runs.{State, Came, Returned, Yielded, Halted}
 use Rattle.hy_copying.specs.Places.{Temporary, Entry, Standing, Owned, OnlyLent, Bound, Held, value_of, without}
@@ -16,10 +17,12 @@ pub record Later : Type 0 where
   pub passes : ℕ
   pub parts : Val → Acts
 
+-- the first of some values
 abbrev pub first : List Val → Val
 first [] = Unset
 first (v ∷ more) = v
 
+-- those after the first one
 abbrev pub rest : List Val → List Val
 rest [] = []
 rest (v ∷ more) = more
@@ -78,19 +81,13 @@ abbrev mutual
     visits later visit v
     visits_elements later visit vs
 
+-- A value is deinitialised.
 abbrev pub deinitialises : Later → Val → Acts
 deinitialises later v = visits later Deinitialising v
 
+-- A value is copied.
 abbrev pub copies : Later → Val → Acts
 copies later v = visits later Copying v
-
-abbrev parts_in : Val → Vals
-parts_in Unset = No
-parts_in (Number t n) = No
-parts_in (Truth b) = No
-parts_in (Tuple vs) = vs
-parts_in (Product d vs) = vs
-parts_in (Array vs) = No
 
 -- the parts of a product, after its `deinit`
 abbrev pub deinitialises_parts : Later → Val → Acts
@@ -114,17 +111,15 @@ die later zero entries = give entries
 die later (suc n) [] = give []
 die later (suc n) (e ∷ more) = dies later e.standing e (die later n more)
 
-abbrev temporaries_above : Later → ℕ → Acts
-temporaries_above later mark env s =
+-- At the end of a statement those temporaries die that it created, the newest first; so many were there before it.
+abbrev pub temporaries_die : Later → (before : ℕ) → Acts
+temporaries_die later before env s =
     (do
-      left ← die later (length env.temporaries - mark) env.temporaries
+      left ← die later (length env.temporaries - before) env.temporaries
       changes (λ env. record env { temporaries = left }))
     env s
 
--- At the end of a statement, or of what is one in the rule on temporaries, those die that it created, the newest first.
-abbrev pub temporaries_die : Later → (before : ℕ) → Acts
-temporaries_die later before = temporaries_above later before
-
+-- what is a statement of its own in the rule on temporaries
 abbrev pub as_statement : {A : Type 0} → Later → Does A → Does A
 as_statement later does env s =
     (do
@@ -133,7 +128,7 @@ as_statement later does env s =
       give given)
     env s
 
--- one that was held dies
+-- One that was held dies.
 abbrev let_go : Later → ℕ → Acts
 let_go later node env s =
     (do
@@ -141,6 +136,7 @@ let_go later node env s =
       deinitialises later (value_of (Temporary node) env))
     env s
 
+-- Those that were held die, in this order.
 abbrev pub let_all_go : Later → List ℕ → Acts
 let_all_go later [] = nothing
 let_all_go later (node ∷ older) = do

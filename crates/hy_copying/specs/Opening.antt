@@ -2,20 +2,18 @@
 use Rattle.std.specs.Prelude.{ℕ, Bool, true, false, List, [], ◌∷◌, reverse, Option, Some, None}
 use Rattle.hy_base.specs.declared.position.Span.{Span}
 use Rattle.hy_base.specs.declared.run.TrapKind.TheVariants as trap
-use Rattle.hy_base.specs.declared.numbers.IntegerType.TheVariants as integer
 use Rattle.hy_tree.specs.Tree as T
 use Rattle.hy_tree.specs.Names.{own_name}
 use Rattle.hy_tree.specs.declared.declaration.CallableKind.TheVariants as kind
-use Rattle.hy_types.specs.Types as Y
 use Rattle.hy_types.specs.Types.{PlainType}
-use Rattle.hy_signatures.specs.PlainTypes.{unit}
 use Rattle.hy_signatures.specs.Declarations.{Source, callable_at, callable_named, members_of}
 use Rattle.hy_signatures.specs.Signatures as S
 use Rattle.hy_signatures.specs.Signatures.{Callee}
 use Rattle.hy_check.specs.Uses as U
 use Rattle.hy_check.specs.Uses.{Use, Sig}
 use Rattle.hy_core.specs.Operators.{index_in}
-use Rattle.hy_core.specs.Values.{Val, Unset, Number, Truth, Tuple, Product, Array, many, part, PartAt, ElementAt, Path}
+use Rattle.hy_core.specs.Values.{Val, Unset, many, part, PartAt, ElementAt, Path}
+use Rattle.hy_copying.specs.Kinds.{elements_in, type_named}
 use Rattle.hy_copying.specs.Known.{Known}
 use Rattle.hy_copying.specs.Runs.{Came, Returned, Yielded, Halted}
 use Rattle.hy_copying.specs.Places.{Root, Located, Rooted, PartIn, ElementIn, YieldedIn, Arguments, NoArgument, Moved, Lent, Opened, InEntry, InYielded, Openeds}
@@ -89,29 +87,19 @@ abbrev mutual
 
 -- BODIES
 
--- the type that a value names
-abbrev tag : Val → PlainType
-tag Unset = unit
-tag (Number integer.Int n) = Y.Int
-tag (Number (integer.Sized num) n) = Y.Sized num
-tag (Truth b) = Y.Bool
-tag (Tuple vs) = unit
-tag (Product d vs) = Y.Product d
-tag (Array vs) = unit
-
-abbrev node_of : Option T.Callable → ℕ
-node_of None = 0
-node_of (Some c) = c.at.node
+abbrev node_of_member : Option T.Callable → ℕ
+node_of_member None = 0
+node_of_member (Some c) = c.at.node
 
 abbrev met_by : Source → PlainType → Option T.Callable → ℕ
 met_by source type None = 0
-met_by source type (Some requirement) = node_of (callable_named kind.Function (own_name requirement) (members_of source type))
+met_by source type (Some requirement) = node_of_member (callable_named kind.Function (own_name requirement) (members_of source type))
 
 -- The declaration that is called. What a trait requires is the member with its name and labels in the type that the receiver's value
 -- names.
 abbrev called : Source → Callee → (receiver : Val) → ℕ
 called source (S.Declared node) receiver = node
-called source (S.Required requirement place) receiver = met_by source (tag receiver) (callable_at requirement source.decls)
+called source (S.Required requirement place) receiver = met_by source (type_named receiver) (callable_at requirement source.decls)
 called source (S.Predeclared number) receiver = 0
 called source (S.Initialiser product) receiver = 0
 called source (S.Conversion to) receiver = 0
@@ -133,6 +121,7 @@ pub record Place : Type 0 where
   pub opened : Opened
   pub value : Val
 
+-- open arguments, with the values that their parameters start with
 pub record Places : Type 0 where
   pub opened : Openeds
   pub values : List Val
@@ -143,14 +132,6 @@ part_of p k = record { opened = inner (PartAt k) p.opened; value = part (PartAt 
 abbrev element_of : Place → ℕ → Place
 element_of p k = record { opened = inner (ElementAt k) p.opened; value = part (ElementAt k) p.value }
 
-abbrev elements_in : Val → ℕ
-elements_in Unset = 0
-elements_in (Number t n) = 0
-elements_in (Truth b) = 0
-elements_in (Tuple vs) = 0
-elements_in (Product d vs) = 0
-elements_in (Array vs) = many vs
-
 -- an index outside the array traps, and is not counted
 abbrev at_index : Place → Option ℕ → Span → Does Place
 at_index p None span = traps trap.Index span
@@ -158,11 +139,12 @@ at_index p (Some k) span = do
   count
   give (element_of p k)
 
-abbrev pub holds : List ℕ → Acts
-holds [] = nothing
-holds (node ∷ more) = do
+-- These temporaries die with a projection or a subscript.
+abbrev pub holds_all : List ℕ → Acts
+holds_all [] = nothing
+holds_all (node ∷ more) = do
   changes (λ env. hold node env)
-  holds more
+  holds_all more
 
 abbrev at_root : Root → Does Place
 at_root root env s = Gives (record { opened = InEntry root []; value = value_of root env }) env s
@@ -176,7 +158,7 @@ yielded type places temporaries (Halted h t) env s = Stops h t
 
 abbrev ramps : Later → Sig → PlainType → (temporaries : List ℕ) → Places → Does Place
 ramps later sig type temporaries places = do
-  holds temporaries
+  holds_all temporaries
   came ← runs later sig places.values
   yielded type places.opened temporaries came
 
@@ -197,7 +179,7 @@ abbrev mutual
     give (part_of place k)
   opens later (ElementIn whole index span) = do
     place ← opens later whole
-    at_index place (index_in (elements_in place.value) index) span
+    at_index place (index_in (many (elements_in place.value)) index) span
   opens later (YieldedIn sig type arguments) = do
     places ← all_open later true arguments
     ramps later sig type (temporaries_in arguments) places
@@ -222,6 +204,7 @@ pub record Worked : Type 0 where
   pub given : Val
   pub left : List Val
 
+-- Places are open while a body runs on their values.
 abbrev pub with_open : Later → (counted : Bool) → Arguments → (body : List Val → Does Worked) → Does Val
 with_open later counted arguments body = do
   places ← all_open later counted arguments
@@ -250,13 +233,13 @@ gives_only v values = give (record { given = v; left = values })
 abbrev read_value : List Val → Does Worked
 read_value values = gives_only (first values) values
 
--- a place is opened, its value is read, and it closes
+-- A place is opened, its value is read, and it closes.
 abbrev pub reads : Later → Located → Does Val
 reads later place = with_open later false (Lent U.Read place NoArgument) read_value
 
 abbrev moved_value : List Val → Does Worked
 moved_value values = give (record { given = first values; left = Unset ∷ [] })
 
--- a place gives its value, and is unset then
+-- A place gives its value, and is unset then.
 abbrev pub moves : Later → Located → Does Val
 moves later place = with_open later false (Lent U.Sink place NoArgument) moved_value

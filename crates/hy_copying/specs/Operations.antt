@@ -1,5 +1,5 @@
 -- What operators, conversions and the predeclared functions and members do with the values of their arguments.
-use Rattle.std.specs.Prelude.{ℕ, ◌==◌, ℤ, pos, Bool, not, List, [], ◌∷◌, ◌++◌, Option, Some, None, Result, Ok, Err, cond, int_lt, int_le}
+use Rattle.std.specs.Prelude.{ℕ, ◌==◌, pos, Bool, not, List, [], ◌∷◌, ◌++◌, Option, Some, None, Result, Ok, Err, cond, int_lt, int_le}
 use Rattle.hy_base.specs.Lines as L
 use Rattle.hy_base.specs.Lines.{Got, read_line}
 use Rattle.hy_base.specs.declared.numbers.IntegerType.TheVariants as integer
@@ -20,14 +20,12 @@ use Rattle.hy_types.specs.Types as Y
 use Rattle.hy_types.specs.Types.{PlainType}
 use Rattle.hy_core.specs.Operators as O
 use Rattle.hy_core.specs.Operators.{index_in, at_end, popped, line_of}
-use Rattle.hy_core.specs.Values.{Val, Unset, Number, Truth, Tuple, Product, Array, Vals, No, And, many, nth, with_nth}
+use Rattle.hy_core.specs.Values.{Val, Number, Truth, Array, Vals, No, And, many, nth, with_nth}
+use Rattle.hy_copying.specs.Kinds.{is_true, integer_in, elements_in, unit_value}
 use Rattle.hy_copying.specs.Runs.{State, Ends, Prints, Reads}
-use Rattle.hy_copying.specs.Does.{Gives, Stops, Does, ◌>>=◌, ◌>>◌, give, traps, impossible, when, is_true, happens}
+use Rattle.hy_copying.specs.Does.{Gives, Stops, Does, ◌>>=◌, ◌>>◌, give, traps, impossible, when, happens}
 use Rattle.hy_copying.specs.Lives.{Later, first, rest, copies}
 use Rattle.hy_copying.specs.Opening.{Worked, gives_only}
-
-abbrev pub unit_value : Val
-unit_value = Tuple No
 
 -- ARITHMETIC
 
@@ -48,6 +46,7 @@ operation_of arithmetic.Multiply = operation.Mul
 operation_of arithmetic.Divide = operation.Div
 operation_of arithmetic.Remainder = operation.Rem
 
+-- an operation of arithmetic, of two integers of one type
 abbrev pub computes : Arithmetic → Span → Val → Val → Does Val
 computes a span v w = calculated span (O.operated (operation_of a) v w)
 
@@ -67,6 +66,7 @@ operates operator.Greater span v w = decided (O.ordered (λ m n. int_lt n m) v w
 operates operator.GreaterEqual span v w = decided (O.ordered (λ m n. int_le n m) v w)
 operates (operator.Arithmetic a) span v w = computes a span v w
 
+-- an operator of one value
 abbrev pub operates_alone : UnaryOperator → Span → Val → Does Val
 operates_alone unary.Negate span v = calculated span (O.negated v)
 operates_alone unary.Not span v = give (Truth (not (is_true v)))
@@ -75,27 +75,7 @@ operates_alone unary.Not span v = give (Truth (not (is_true v)))
 abbrev pub converts : PlainType → Span → Val → Does Val
 converts Y.Int span v = calculated span (O.converted integer.Int v)
 converts (Y.Sized num) span v = calculated span (O.converted (integer.Sized num) v)
-converts Y.Bool span v = impossible
-converts (Y.Tuple parts) span v = impossible
-converts (Y.Product d) span v = impossible
-converts (Y.Array element) span v = impossible
-converts (Y.Param place) span v = impossible
-
-abbrev pub integer_in : Val → ℤ
-integer_in Unset = pos 0
-integer_in (Number t n) = n
-integer_in (Truth b) = pos 0
-integer_in (Tuple vs) = pos 0
-integer_in (Product d vs) = pos 0
-integer_in (Array vs) = pos 0
-
-abbrev pub elements : Val → Vals
-elements Unset = No
-elements (Number t n) = No
-elements (Truth b) = No
-elements (Tuple vs) = No
-elements (Product d vs) = No
-elements (Array vs) = vs
+converts other span v = impossible
 
 -- PRINT, READ AND PRECONDITION
 
@@ -108,6 +88,7 @@ prints_line (Some piece) = do
   happens (Prints piece)
   writes piece
 
+-- `print` of a value
 abbrev pub prints : Val → Does Val
 prints v = prints_line (line_of v)
 
@@ -123,19 +104,23 @@ got L.Wants span env s = Stops (Ends end.Asks) s
 abbrev takes_line : Span → Does Val
 takes_line span env s = got (read_line s.cut s.input) span env s
 
+-- `read()` at this span
 abbrev pub reads_line : Span → Does Val
 reads_line span = do
   happens Reads
   takes_line span
 
-abbrev pub holds : Span → Val → Does Val
-holds span v = when (is_true v) (give unit_value) (traps trap.Precondition span)
+-- `precondition` at this span
+abbrev pub demands : Span → Val → Does Val
+demands span v = when (is_true v) (give unit_value) (traps trap.Precondition span)
 
 -- MEMBERS OF ARRAYS
 
+-- an array with a value as its last element
 abbrev pub appended : Val → Val → Worked
-appended array v = record { given = unit_value; left = Array (at_end (elements array) v) ∷ [] }
+appended array v = record { given = unit_value; left = Array (at_end (elements_in array) v) ∷ [] }
 
+-- the last element is removed and given
 abbrev pub removes_last : Span → Vals → Does Worked
 removes_last span No = traps trap.Empty span
 removes_last span (And v vs) = let p = popped v vs in give (record { given = p.last; left = Array p.rest ∷ [] })
@@ -143,7 +128,8 @@ removes_last span (And v vs) = let p = popped v vs in give (record { given = p.l
 abbrev swapped : ℕ → ℕ → Vals → Val
 swapped i j vs = Array (with_nth i (nth j vs) (with_nth j (nth i vs) vs))
 
-abbrev span_or : List Span → Span → Span
+-- the first of some spans, or this one
+abbrev pub span_or : List Span → Span → Span
 span_or [] span = span
 span_or (one ∷ more) span = one
 
@@ -175,6 +161,7 @@ pub data Built : Type 0 where
   SwapAt : Built
   Copy : Built
 
+-- the predeclared call with a number
 abbrev pub built : ℕ → Built
 built number =
     cond (number == PRINT) Print
@@ -195,12 +182,12 @@ works later Read span spans values = do
   v ← reads_line span
   gives_only v values
 works later Precondition span spans values = do
-  v ← holds span (first values)
+  v ← demands span (first values)
   gives_only v values
-works later Count span spans values = gives_only (Number integer.Int (pos (many (elements (first values))))) values
+works later Count span spans values = gives_only (Number integer.Int (pos (many (elements_in (first values))))) values
 works later Append span spans values = give (appended (first values) (first (rest values)))
-works later RemoveLast span spans values = removes_last span (elements (first values))
-works later SwapAt span spans values = swaps_at span spans (elements (first values)) (rest values)
+works later RemoveLast span spans values = removes_last span (elements_in (first values))
+works later SwapAt span spans values = swaps_at span spans (elements_in (first values)) (rest values)
 works later Copy span spans values = do
   copies later (first values)
   gives_only (first values) values

@@ -7,7 +7,7 @@ use Rattle.hy_signatures.specs.PlainTypes.{unit, part_at}
 use Rattle.hy_signatures.specs.Declarations.{Source, Field, fields_of}
 use Rattle.hy_check.specs.Uses.{Use, Sig}
 use Rattle.hy_core.specs.Operators.{blanks}
-use Rattle.hy_core.specs.Values.{Val, Unset, Number, Truth, Tuple, Product, Array, Vals, No, And, Selector, PartAt, ElementAt, Path, part, with_part}
+use Rattle.hy_core.specs.Values.{Val, Unset, Tuple, Product, Vals, No, And, Selector, PartAt, ElementAt, Path, part, with_part}
 use Rattle.hy_copying.specs.Runs.{State, Slid}
 
 -- a variable, parameter, bound projection or new value, by the node that declares it; `self`; or a temporary, by the node of the
@@ -17,6 +17,7 @@ pub data Root : Type 0 where
   Itself : Root
   Temporary : (node : ℕ) → Root
 
+-- whether two are the same
 abbrev pub same_root : Root → Root → Bool
 same_root (Local a) (Local b) = a == b
 same_root Itself Itself = true
@@ -82,11 +83,13 @@ temporaries_of (PartIn whole number) = temporaries_of whole
 temporaries_of (ElementIn whole index trap) = temporaries_of whole
 temporaries_of (YieldedIn sig type arguments) = []
 
+-- those that are roots of places among the arguments, in order
 abbrev pub temporaries_in : Arguments → List ℕ
 temporaries_in NoArgument = []
 temporaries_in (Moved v more) = temporaries_in more
 temporaries_in (Lent used place more) = temporaries_of place ++ temporaries_in more
 
+-- one argument more, which was moved
 abbrev pub and_last : Arguments → Val → Arguments
 and_last NoArgument v = Moved v NoArgument
 and_last (Moved w more) v = Moved w (and_last more v)
@@ -126,11 +129,7 @@ in_parts source type = Unset
 -- the value at this path of an entry of this type
 abbrev parted : Source → PlainType → (before : Path) → Val → Val
 parted source type before Unset = in_parts source (type_there source type before)
-parted source type before (Number t n) = Number t n
-parted source type before (Truth b) = Truth b
-parted source type before (Tuple vs) = Tuple vs
-parted source type before (Product d vs) = Product d vs
-parted source type before (Array vs) = Array vs
+parted source type before v = v
 
 abbrev put_after : Source → PlainType → (before path : Path) → (new old : Val) → Val
 put_after source type before [] new old = new
@@ -153,6 +152,7 @@ pub data Standing : Type 0 where
   Bound : Use → Opened → (from : List ℕ) → (temporaries : List ℕ) → Standing
   Held : Standing
 
+-- an entry of the environment
 pub record Entry : Type 0 where
   pub root : Root
   pub type : PlainType
@@ -168,6 +168,7 @@ abbrev value_among : Root → List Entry → Val
 value_among root [] = Unset
 value_among root (e ∷ more) = cond (same_root e.root root) e.value (value_among root more)
 
+-- the value of an entry
 abbrev pub value_of : Root → Env → Val
 value_of (Local node) env = value_among (Local node) env.locals
 value_of Itself env = value_among Itself env.locals
@@ -193,9 +194,11 @@ with_changed f (Local node) env = with_locals env (changed f (Local node) env.lo
 with_changed f Itself env = with_locals env (changed f Itself env.locals)
 with_changed f (Temporary node) env = with_temporaries env (changed f (Temporary node) env.temporaries)
 
+-- The value of an entry gets another value at a path.
 abbrev pub put_in : Source → Root → Path → Val → Env → Env
 put_in source root path new env = with_changed (λ e. record e { value = put_at source e.type path new e.value }) root env
 
+-- A temporary is held.
 abbrev pub hold : (temporary : ℕ) → Env → Env
 hold node env = with_changed (λ e. record e { standing = Held }) (Temporary node) env
 
@@ -203,5 +206,6 @@ abbrev without_among : Root → List Entry → List Entry
 without_among root [] = []
 without_among root (e ∷ more) = cond (same_root e.root root) more (e ∷ without_among root more)
 
+-- the environment without a temporary
 abbrev pub without : (temporary : ℕ) → Env → Env
 without node env = with_temporaries env (without_among (Temporary node) env.temporaries)

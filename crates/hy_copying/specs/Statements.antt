@@ -12,15 +12,16 @@ use Rattle.hy_signatures.specs.Declarations.{callable_at}
 use Rattle.hy_check.specs.Uses as U
 use Rattle.hy_check.specs.Uses.{Use, use_in, argument_use_by}
 use Rattle.hy_core.specs.Values.{Val, Unset}
+use Rattle.hy_copying.specs.Kinds.{is_true, unit_value}
 use Rattle.hy_copying.specs.Known.{Known, type_at, mentioned, owner_of, variant_for}
 use Rattle.hy_copying.specs.Runs.{State, Slid, Back, Late, Came, Returned, Yielded, Halted}
 use Rattle.hy_copying.specs.Places.{Root, Local, Itself, Temporary, Located, NoArgument, Lent, Opened, lends, temporaries_of, and_last}
 use Rattle.hy_copying.specs.Places.{Entry, Standing, Owned, OnlyLent, Bound, Held, Env}
-use Rattle.hy_copying.specs.Does.{Outcome, Gives, Yields, Stops, Does, Acts, ◌>>=◌, ◌>>◌, give, nothing, impossible, when, is_true, changes, declares}
+use Rattle.hy_copying.specs.Does.{Outcome, Gives, Yields, Stops, Does, Acts, ◌>>=◌, ◌>>◌, give, nothing, impossible, when, changes, declares}
 use Rattle.hy_copying.specs.Does.{take_newest, count, turn}
 use Rattle.hy_copying.specs.Lives.{Later, first, deinitialises, temporaries_die, as_statement, let_all_go}
-use Rattle.hy_copying.specs.Opening.{Worked, Place, opens, closes, put_back, holds, with_open, calls}
-use Rattle.hy_copying.specs.Operations.{unit_value, computes}
+use Rattle.hy_copying.specs.Opening.{Worked, Place, opens, closes, put_back, holds_all, with_open, calls}
+use Rattle.hy_copying.specs.Operations.{computes}
 use Rattle.hy_copying.specs.Expressions.{Ready, Is, Has, Awaits, ready, placed, looked_at, takes, node_of}
 
 -- where a statement goes
@@ -60,7 +61,7 @@ local known node v standing = record { root = Local node; type = type_at known n
 abbrev projects : Later → Use → ℕ → Located → Place → Acts
 projects later used node located place = do
   count
-  holds (temporaries_of located)
+  holds_all (temporaries_of located)
   declares (local later.known node place.value (Bound used place.opened (lends located) (temporaries_of located)))
 
 abbrev binds : Later → Use → ℕ → Ready → Acts
