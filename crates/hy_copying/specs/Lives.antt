@@ -67,13 +67,13 @@ abbrev mutual
     turn
     visits_elements later visit vs
 
-  visits_parts : Later → Visit → Vals → Acts
+  pub visits_parts : Later → Visit → Vals → Acts
   visits_parts later visit No = nothing
   visits_parts later visit (And v vs) = do
     visits later visit v
     visits_parts later visit vs
 
-  visits_elements : Later → Visit → Vals → Acts
+  pub visits_elements : Later → Visit → Vals → Acts
   visits_elements later visit No = nothing
   visits_elements later visit (And v vs) = do
     turn

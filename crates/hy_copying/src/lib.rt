@@ -2,9 +2,29 @@
 //! were copied. `docs/COPYING.md` tells it in words. No code is proved against these definitions yet.
 #![tactic(auto)]
 
-ghost use Rattle.hy_copying.specs.Laws.{NothingIsDoneWithoutATurn};
+ghost use Rattle.hy_copying.specs.Laws.{NothingIsDoneWithoutATurn, CopiesCostTurns, ReadsChangeNothing, MovesUnset, LentForChange};
 
 /// A run with no turns is spent, and has done nothing.
 pub fn no_turn()
     ensures { NothingIsDoneWithoutATurn }
+{}
+
+/// A copy takes a turn and opens a place for each array and each element of one, and does nothing else.
+pub fn copies_cost_turns()
+    ensures { CopiesCostTurns }
+{}
+
+/// A variable is read without any event, and nothing changes.
+pub fn reads_change_nothing()
+    ensures { ReadsChangeNothing }
+{}
+
+/// A variable that is moved is unset then.
+pub fn moves_unset()
+    ensures { MovesUnset }
+{}
+
+/// A variable that is lent for change has what its parameter has at the end.
+pub fn lent_for_change()
+    ensures { LentForChange }
 {}
