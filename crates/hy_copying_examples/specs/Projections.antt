@@ -1,5 +1,5 @@
 -- Places that are lent, bound projections, and subscripts that yield.
-use Rattle.std.specs.Prelude.{List, [], ◌∷◌, ◌++◌, codes}
+use Rattle.std.specs.Prelude.{ℕ, List, [], ◌∷◌, ◌++◌, codes}
 use Rattle.hy_base.specs.declared.run.TrapKind.TheVariants as trap
 use Rattle.hy_copying_examples.specs.Rows.{Row, does, trapped, with_d, with_s, with_noisy}
 
@@ -101,4 +101,39 @@ subscript_traps =
     ∷ trapped (does [] (codes "subscript t(_ x: yielded Int): Int { inout { «precondition(x > 0)»; yield &x } } "
     ++ codes "fun main() { var u = 0; inout a = &t[&u]; a = 0; print(7) }") 2 1) trap.Precondition
     ∷ trapped (does (codes "1/101/1") (with_s (codes "fun main() { var u = 1; s[1, &u] = 2 / 2; inout a = &s[1, &u]; a = «1 / 0» }")) 3 7) trap.Divide
+    ∷ []
+
+abbrev three : List ℕ
+three = codes "fun main() { var u = 0; var v = 0; var w = 0; inout a = &s[1, &u]; inout b = &s[2, &v]; inout c = &s[3, &w]; "
+
+-- in which order three projections close
+abbrev pub slides : List Row
+slides =
+    does (codes "1/2/3/101/102/103") (with_s (three ++ codes "a += 1; b += 1; c += 1 }")) 4 12
+    ∷ does (codes "1/2/3/101/103/102") (with_s (three ++ codes "a += 1; c += 1; b += 1 }")) 4 12
+    ∷ does (codes "1/2/3/102/101/103") (with_s (three ++ codes "b += 1; a += 1; c += 1 }")) 4 12
+    ∷ does (codes "1/2/3/102/103/101") (with_s (three ++ codes "b += 1; c += 1; a += 1 }")) 4 12
+    ∷ does (codes "1/2/3/103/101/102") (with_s (three ++ codes "c += 1; a += 1; b += 1 }")) 4 12
+    ∷ does (codes "1/2/3/103/102/101") (with_s (three ++ codes "c += 1; b += 1; a += 1 }")) 4 12
+    ∷ []
+
+-- two projections between three variables, past which a body ends
+abbrev between : List ℕ
+between = codes "var x = D(k: 7); inout a = &s[1, &u]; var y = D(k: 8); inout b = &s[2, &v]; var z = D(k: 9); "
+
+abbrev pub early : List Row
+early =
+    does (codes "1/2/9/102/8/101/7/5")
+    (with_d (with_s (codes "fun f() { var u = 0; var v = 0; " ++ (between ++ codes "if true { return }; a = 1; b = 1 } fun main() { f(); print(5) }")))) 7 11
+    ∷ does (codes "1/2/9/102/8/101/7/5")
+    (with_d (with_s (codes "fun main() { var u = 0; var v = 0; while true { "
+    ++ (between ++ codes "if true { break }; a = 1; b = 1 }; print(5) }")))) 7 11
+    ∷ does (codes "1/2/9/102/8/101/7/5")
+    (with_d (with_s (codes "fun main() { var u = 0; var v = 0; var i = 0; while i < 1 { i += 1; "
+    ++ (between ++ codes "if true { continue }; a = 1; b = 1 }; print(5) }")))) 7 11
+    ∷ does (codes "1/2/101/102/9/8/7/5")
+    (with_d (with_s (codes "fun main() { var u = 0; var v = 0; if true { " ++ (between ++ codes "a = 1; b = 1 }; print(5) }")))) 6 11
+    ∷ trapped (does (codes "1/2/0/102")
+    (with_d (with_s (codes "fun main() { var u = 0; var v = 0; " ++ (between ++ codes "print(0); precondition(b == 0); «precondition(a == 1)» }")))) 3 8)
+    trap.Precondition
     ∷ []

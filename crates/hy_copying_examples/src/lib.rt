@@ -71,6 +71,16 @@ pub fn subscript_traps()
     ensures { Hold projection.subscript_traps }
 {}
 
+/// Three projections that close in each order.
+pub fn slides()
+    ensures { Hold projection.slides }
+{}
+
+/// Ends of blocks and bodies past open projections, and a trap.
+pub fn early()
+    ensures { Hold projection.early }
+{}
+
 /// Arrays and their members.
 pub fn arrays()
     ensures { Hold array.arrays }
