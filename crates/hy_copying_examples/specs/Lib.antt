@@ -1,4 +1,5 @@
 pub mod Accounts
+pub mod Agreeing
 pub mod Arrays
 pub mod Basics
 pub mod Limits

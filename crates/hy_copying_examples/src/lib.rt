@@ -3,6 +3,8 @@
 #![tactic(auto)]
 
 ghost use Rattle.hy_copying_examples.specs.Accounts as accounts;
+ghost use Rattle.hy_copying_examples.specs.Agreeing as agreeing;
+ghost use Rattle.hy_copying_examples.specs.Agreeing.{AllAgree};
 ghost use Rattle.hy_copying_examples.specs.Arrays as array;
 ghost use Rattle.hy_copying_examples.specs.Basics as basic;
 ghost use Rattle.hy_copying_examples.specs.Limits as limit;
@@ -134,4 +136,14 @@ pub fn suspended()
 /// Values that are set in part, and what is stored over.
 pub fn partial()
     ensures { Hold order.partial }
+{}
+
+/// On programs of the forms that are built the meaning of the whole language is the one that `hyloc run` keeps to.
+pub fn agreeing()
+    ensures { AllAgree 5 agreeing.texts }
+{}
+
+/// The same with no turns.
+pub fn agreeing_without_turns()
+    ensures { AllAgree 0 agreeing.texts }
 {}
