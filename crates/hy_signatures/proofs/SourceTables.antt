@@ -1,5 +1,4 @@
 -- The tables of a source, in a table of types that grows.
-use Rattle.std.proofs.Common.{refl}
 use Rattle.hy_tree.specs.Denotes.{callable_of}
 use Rattle.hy_types.specs.Types.{Table, Extends}
 use Rattle.hy_signatures.specs.CallablesShown.{AreCallables}

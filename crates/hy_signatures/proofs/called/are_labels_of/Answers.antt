@@ -1,4 +1,4 @@
-use Rattle.std.proofs.Common.{sym, ◌∙◌, arith}
+use Rattle.std.proofs.Common.{sym, arith}
 use Rattle.hy_signatures.proofs.CalledNames.{counts_differ, label_same, label_differs, all_same}
 use Rattle.hy_signatures.proofs.called.are_labels_of.Goals as goal
 

@@ -1,5 +1,4 @@
 use Rattle.std.proofs.Common.{[], List, refl, sym, subst}
-use Rattle.hy_tree.specs.Denotes.{args_of}
 use Rattle.hy_types.specs.Types.{Product}
 use Rattle.hy_signatures.specs.Declarations.{Field, members_of, names_of}
 use Rattle.hy_signatures.specs.Signatures as S

@@ -1,7 +1,7 @@
 use Rattle.std.proofs.Common.{◌∙◌}
 use Rattle.std.proofs.lemmas.Bool.{ne_eqb}
 use Rattle.std.proofs.Common.{length}
-use Rattle.hy_signatures.proofs.CalledNames.{not_one, one_of}
+use Rattle.hy_signatures.proofs.CalledNames.{not_one}
 use Rattle.hy_signatures.proofs.called.is_one_unlabelled.Goals as goal
 
 pub returns-else-args-eq1 : goal.returns-else-args-eq1

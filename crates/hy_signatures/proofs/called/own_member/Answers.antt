@@ -1,4 +1,4 @@
-use Rattle.std.proofs.Common.{◌≡◌, ◌∙◌, Option, inl, inr, refl, sym, subst}
+use Rattle.std.proofs.Common.{◌≡◌, Option, inl, inr, refl, sym, subst}
 use Rattle.std.specs.Option.{option_map}
 use Rattle.hy_tree.specs.declared.declaration.CallableKind.TheVariants as kind
 use Rattle.hy_types.specs.Types.{PlainType, type_of, type_of_row}

@@ -1,4 +1,4 @@
-use Rattle.std.proofs.Common.{List, ℕ, ◌∙◌, map, subst}
+use Rattle.std.proofs.Common.{List, ℕ, ◌∙◌, subst}
 use Rattle.std.specs.Option.{option_map}
 use Rattle.hy_tree.specs.declared.declaration.CallableKind.TheVariants as kind
 use Rattle.hy_types.specs.Types.{type_of}
