@@ -53,11 +53,13 @@ mutual
 
   parts_cost : (later : Later) (vs : Vals) → Costs (visits_parts later Copying vs) (cost_of_parts vs)
   parts_cost later No = none _ (λ env s. refl)
-  parts_cost later (And v vs) = both (visits later Copying v) (visits_parts later Copying vs) (cost v) (cost_of_parts vs) (copy_costs later v) (parts_cost later vs)
+  parts_cost later (And v vs) = both (visits later Copying v) (visits_parts later Copying vs) (cost v) (cost_of_parts vs) (copy_costs later v)
+      (parts_cost later vs)
 
   elements_cost : (later : Later) (vs : Vals) → Costs (visits_elements later Copying vs) (cost_of_elements vs)
   elements_cost later No = none _ (λ env s. refl)
   elements_cost later (And v vs) = λ env s left opened.
       ap (λ n. visits_elements later Copying (And v vs) env (counting s n opened)) (before (cost v + cost_of_elements vs) left)
-      ∙ both (visits later Copying v) (visits_elements later Copying vs) (cost v) (cost_of_elements vs) (copy_costs later v) (elements_cost later vs) env s left (suc opened)
+      ∙ both (visits later Copying v) (visits_elements later Copying vs) (cost v) (cost_of_elements vs) (copy_costs later v)
+      (elements_cost later vs) env s left (suc opened)
       ∙ ap (λ n. Gives tt env (counting s left n)) (after (cost v + cost_of_elements vs) opened)

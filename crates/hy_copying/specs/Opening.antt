@@ -16,7 +16,8 @@ use Rattle.hy_core.specs.Values.{Val, Unset, many, part, PartAt, ElementAt, Path
 use Rattle.hy_copying.specs.Kinds.{elements_in, type_named}
 use Rattle.hy_copying.specs.Known.{Known}
 use Rattle.hy_copying.specs.Runs.{Came, Returned, Yielded, Halted}
-use Rattle.hy_copying.specs.Places.{Root, Located, Rooted, PartIn, ElementIn, YieldedIn, Arguments, NoArgument, Moved, Lent, Opened, InEntry, InYielded, Openeds}
+use Rattle.hy_copying.specs.Places.{Root, Located, Rooted, PartIn, ElementIn, YieldedIn, Arguments, NoArgument, Moved, Lent, Opened, InEntry}
+use Rattle.hy_copying.specs.Places.{InYielded, Openeds}
 use Rattle.hy_copying.specs.Places.{NoneOpen, NotOpen, AlsoOpen, temporaries_in, inner, put_at, value_of, put_in, hold}
 use Rattle.hy_copying.specs.Does.{Gives, Stops, Does, Acts, ◌>>=◌, ◌>>◌, give, nothing, traps, impossible, when, count, turn, changes, slides}
 use Rattle.hy_copying.specs.Lives.{Later, first, rest, deinitialises, let_all_go}

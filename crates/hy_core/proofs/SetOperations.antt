@@ -228,7 +228,8 @@ module _ (acting : Acting) where
           (ap (λ o. type_at p.core.types o (still array.steps)) (sym (local_is acting array.local t y)) ∙ is_array)
           (sets_single p.core.types a (array_state vs) _ leaf (subst (Meets (array_state vs)) (sym there') (array_meets vs ws))));
       agrees = agrees;
-      others = λ k n. set_other E (mine array.local) _ k (mine_act acting array.local k n) ∙ set_other h.maps (mine to.local) _ k (mine_act acting to.local k n)
+      others = λ k n. set_other E (mine array.local) _ k (mine_act acting array.local k n) ∙ set_other h.maps (mine to.local) _ k
+          (mine_act acting to.local k n)
           ∙ h.others k n;
       ties = h.ties;
       params = h.params;

@@ -415,7 +415,8 @@ module _ (p : Setting) where
 
       good_drop : (stage : Stage) (place : Place) (t : TyId) → IsOf p.core f t place → Always_good (λ c. drop p stage c place)
       good_drop Deinitialises place t is =
-          good_spot p (Stands p) forms n f Now (q_count p forms n n f y) (q_local p forms n n f y) ToDrop place t _ (q_done p forms n f y) is (λ c m s q h lt e.
+          good_spot p (Stands p) forms n f Now (q_count p forms n n f y) (q_local p forms n n f y) ToDrop place t _ (q_done p forms n f y) is
+          (λ c m s q h lt e.
           goes p forms n f y c m (Drops (Value s ∷ Unsets s ∷ []) c.now.work) q.base (record {
             work = ((lt, (lt, tt)), q.on.work);
             paths = q.on.paths;
@@ -439,7 +440,8 @@ module _ (p : Setting) where
 
       good_if : (c : Control) (m : Copies) (on : ℕ) (go : Bool → Interaction Control) → BaseOf p forms n n f c → HasForm p.core f on Flags → Types m
           → ((b : Bool) → Good (Stands p) (go b) m) → Good (Stands p) (with_flag c (m.value (key c on)) go) m
-      good_if c m on go base is h next = good_flag p (Stands p) p.core.types (forms (key c on)) c (m.value (key c on)) go m (h.value (key c on)) (base.locals on
+      good_if c m on go base is h next = good_flag p (Stands p) p.core.types (forms (key c on)) c (m.value (key c on)) go m (h.value (key c on))
+          (base.locals on
           ∙ ap (form_at p.core.types) is.1 ∙ is.2) next
 
       -- c has what is left after the statement

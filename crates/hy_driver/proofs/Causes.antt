@@ -150,7 +150,12 @@ module _ (words : List (List ℕ)) (files_before files_after : Filed) (before af
       record { files = inl same; input = inl i; out = inl o; one = omega (arith, same, i, o) }
   one it (at_files is command may rose idle) = let i = idle.input_faults in let o = idle.out_faults in
       record { files = inr rose; input = inl i; out = inl o; one = omega (arith, rose, i, o) }
-  one it (at_input is command same rose out_same) = record { files = inl same; input = inr rose; out = inl out_same; one = omega (arith, same, rose, out_same) }
+  one it (at_input is command same rose out_same) = record {
+    files = inl same;
+    input = inr rose;
+    out = inl out_same;
+    one = omega (arith, same, rose, out_same);
+  }
   one it (at_out is command same input_same rose) =
       record { files = inl same; input = inl input_same; out = inr rose; one = omega (arith, same, input_same, rose) }
   one it (inside is command same input_same out_same) =

@@ -144,7 +144,8 @@ module _ (words : List (List ℕ)) (files_before files_after : Filed) (before af
   executes_out file bytes left tree object it made input (w.cut_off {fault = fault} cut) =
       cut_by it left tree object fault made input fault.cause cut.no_input cut.cut_short.cut
 
-  follows_out : (file bytes left : List ℕ) (tree : Program) (it : Answer) → IsTree bytes tree → IsInput (c it) left → SourceMayAnswer file bytes before after it
+  follows_out : (file bytes left : List ℕ) (tree : Program) (it : Answer) → IsTree bytes tree → IsInput (c it) left
+      → SourceMayAnswer file bytes before after it
       → (n : ℕ) × StillTells before.out after.out (Appends (take n (mean tree left false turns).output))
   follows_out file bytes left tree it is input (w.refused first idle) = nothing_out before.out after.out (mean tree left false turns).output idle.out
   follows_out file bytes left tree it is input (w.not_compiled idle) = nothing_out before.out after.out (mean tree left false turns).output idle.out

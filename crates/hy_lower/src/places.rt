@@ -41,7 +41,11 @@ pub(crate) fn word_of(body: &Body, local: u32) -> u32
 {
     match home_of(body, local) {
         Home::Words(word) => word,
-        Home::Slot { slot: _, first: _, count: _ } => 0,
+        Home::Slot {
+            slot: _,
+            first: _,
+            count: _,
+        } => 0,
     }
 }
 
@@ -51,7 +55,11 @@ pub(crate) fn place_at(home: Home) -> Result<Place, NoMemory>
 {
     match home {
         Home::Words(word) => Ok(own(word)),
-        Home::Slot { slot, first: _, count: _ } => within(slot),
+        Home::Slot {
+            slot,
+            first: _,
+            count: _,
+        } => within(slot),
     }
 }
 

@@ -51,6 +51,7 @@ lent_takes object i v was new result w n l takes s h = rw (with_items_is v new (
 pub cut_print : (frame : List Cell) (word : ℕ) (shown : Shown) (n : ℤ) (old new : Option (List ℕ)) (c : RunCause) → word_of (slice_get frame word) ≡ Ok n →
     lines.Prints shown n old new (Err c) → Prints frame word shown old new (Err (halt.Cut c))
 cut_print frame word shown n old new cause.Input is printed = absurd printed
-cut_print frame word shown n old new cause.Output is printed = let part = some_front old new (line_of shown n) printed in (n, part.0, is, some_line shown n, part.1)
+cut_print frame word shown n old new cause.Output is printed = let part = some_front old new (line_of shown n) printed in
+    (n, part.0, is, some_line shown n, part.1)
 cut_print frame word shown n old new cause.NoMemory is printed =
     (n, 0, is, refl, subst (λ told. StillTells old told (Appends [])) (sym printed) (told_none old))

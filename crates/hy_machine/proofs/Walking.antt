@@ -13,7 +13,8 @@ use Rattle.hy_object.specs.States.{Stuck}
 use Rattle.hy_machine.specs.Machine.{State, code, does, fetched, step, steps}
 use Rattle.hy_runs.specs.Runs.{Appends}
 use Rattle.hy_runs.proofs.Tellings.{told_none, told_more}
-use Rattle.hy_machine.specs.Walks.{IsPart, printed_by, piece, Unkept, standing, written, advanced, GoesOn, EndsRun, IsCut, IsEndAt, Executes, Walked, ComesToEnd}
+use Rattle.hy_machine.specs.Walks.{IsPart, printed_by, piece, Unkept, standing, written, advanced, GoesOn, EndsRun, IsCut, IsEndAt, Executes, Walked}
+use Rattle.hy_machine.specs.Walks.{ComesToEnd}
 use Rattle.hy_machine.specs.Walks.{ComesToStop, ComesToCut, Leads}
 use Rattle.hy_machine.proofs.Ends.{steps_add}
 

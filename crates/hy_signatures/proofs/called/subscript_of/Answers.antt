@@ -11,8 +11,13 @@ pub found_signature-requires : goal.found_signature-requires
 found_signature-requires c =
     let (source, are) = c.requires.tables in
     let table = c.args.types.now in
-    let list = members_of source (type_of table c.args.id) in
-    (table, source, callable_named kind.Subscript c.as_slice.result.now list, c.subscript-found.ensures table source list (c.members.ensures source are.owners))
+    let list = members_of source (type_of table c.args.id) in (
+      table,
+      source,
+      callable_named kind.Subscript c.as_slice.result.now list,
+      c.subscript-found.ensures table source list
+          (c.members.ensures source are.owners),
+    )
 
 pub returns : goal.returns
 returns c source are =

@@ -104,7 +104,8 @@ returns c =
       let x : Reach = represented g s c.in_ok-x.x in
           let y : Reach = represented g s c.in_ok-y.y in
           c.in_ok-x.ensures.checks g s represents (from_write s c.args.from c.args.words)
-          ∙ checked s kind.Access _ _ (from_place s c.args.from c.args.words x) _ (c.may_write.ensures s g.name represents.opened.told) (c.in_ok-check.ensures s _)
+          ∙ checked s kind.Access _ _ (from_place s c.args.from c.args.words x) _ (c.may_write.ensures s g.name represents.opened.told)
+          (c.in_ok-check.ensures s _)
           ∙ c.in_ok-y.ensures.checks g s represents (from_read s x)
           ∙ checked s kind.Access _ _ (from_unset s x y) _ (c.may_read.ensures s g.name represents.opened.told) (c.in_ok-check-2.ensures s _)
           ∙ checked s kind.Unset _ _ (from_kind s x y) _ (c.is_whole.ensures g s represents) (c.in_ok-check-3.ensures s _)
