@@ -1,5 +1,5 @@
 -- The code of a body: the segments of its statements, one after another.
-use Rattle.std.specs.Prelude.{◌≡◌, ℕ, zero, suc, ◌+◌, Bool, true, false, max, List, [], ◌∷◌, ◌++◌, length, map, Option, Some, None, ℤ, if◌then◌else◌}
+use Rattle.std.specs.Prelude.{◌≡◌, ℕ, zero, suc, ◌+◌, Bool, true, false, max, List, [], ◌∷◌, ◌++◌, length, map, Option, Some, None, if◌then◌else◌}
 use Rattle.hy_types.specs.Types.{Table}
 use Rattle.hy_core.specs.Plain.{Operator, Add, Sub, Mul, Div, Rem, Neg, Convert, Eq, Lt, Le, Not, NewArray, Push, Pop, Swap, Count, FreeArray, Print, Read}
 use Rattle.hy_core.specs.Plain.{Check, Stmts, Done, Then, Stmt, Built, Set, Lend, Close, Move, Copy, Drop, Call, Project, Slide, Yield, If, While, Break}
@@ -11,7 +11,7 @@ use Rattle.hy_object.specs.declared.instr.Instr.TheVariants as instr
 use Rattle.hy_object.specs.declared.object.Fun as object
 use Rattle.hy_object.specs.declared.object.Object.{Object}
 use Rattle.hy_lower.specs.Arrays.{arrays_in}
-use Rattle.hy_lower.specs.Frames.{Home, Words, Slot, AreSizes, size_of, words_of, indexes, on_the_way, Frame, home_of, slot_of, frame_of}
+use Rattle.hy_lower.specs.Frames.{Home, Words, Slot, AreSizes, size_of, words_of, indexes, Frame, home_of, slot_of, frame_of}
 use Rattle.hy_lower.specs.Places.{place_size, type_of}
 use Rattle.hy_lower.specs.Segments.{test, built, set, lend, close, move, copy, drop, call, project, leave}
 
@@ -87,7 +87,7 @@ lend_length (Slot slot first inner) p = indexes p.steps + last_length (is_counte
 
 abbrev pub close_length : Home → ℕ
 close_length (Words w) = zero
-close_length (Slot slot first inner) = suc inner
+close_length (Slot slot first inner) = inner + 1
 
 module _ (b : Frame) where
   abbrev mutual
@@ -103,12 +103,12 @@ module _ (b : Frame) where
     length_of (Move to from) = through_length from 1 + through_length to 1
     length_of (Copy to from) = through_length from 1 + through_length to 1
     length_of (Drop p) = through_length p (length (arrays_in b.types b.sizes (type_of b p)))
-    length_of (Call fun lent owned to) = loads_length owned + suc (through_length to 1)
+    length_of (Call fun lent owned to) = loads_length owned + through_length to 1 + 1
     length_of (Project fun lent owned to) = loads_length owned + 1
     length_of (Slide l) = 1
     length_of (Yield l) = 1
-    length_of (If on yes' no') = 2 + (length_all yes' + suc (length_all no'))
-    length_of (While head on body) = suc (length_all body + (length_all head + 2))
+    length_of (If on yes' no') = length_all yes' + length_all no' + 3
+    length_of (While head on body) = length_all body + length_all head + 3
     length_of Break = 1
     length_of Continue = 1
     length_of (Leave from) = through_length from 1 + 1
@@ -117,12 +117,12 @@ module _ (b : Frame) where
 
   -- the test, a jump to the second part where it is false, the first part, a jump past the second, and the second part
   abbrev pub choice : (pc on first second : ℕ) → (yes' no' : List Instr) → List Instr
-  choice pc on first second yes' no' = test b on ++ (instr.JumpUnless b.scratch (suc (pc + 2 + first))
-      ∷ (yes' ++ (instr.Jump (suc (pc + 2 + first) + second) ∷ no')))
+  choice pc on first second yes' no' = test b on ++ (instr.JumpUnless b.scratch (pc + 2 + first + 1)
+      ∷ (yes' ++ (instr.Jump (pc + 2 + first + 1 + second) ∷ no')))
 
   -- a jump to the head, the body, the head, the test, and a jump back to the body where it is true, which takes the turn
   abbrev pub loop : (pc on body : ℕ) → (body' head : List Instr) → List Instr
-  loop pc on body body' head = instr.Jump (suc pc + body) ∷ (body' ++ (head ++ (test b on ++ instr.JumpIf b.scratch (suc pc) ∷ [])))
+  loop pc on body body' head = instr.Jump (pc + 1 + body) ∷ (body' ++ (head ++ (test b on ++ instr.JumpIf b.scratch (pc + 1) ∷ [])))
 
   abbrev mutual
     pub code_all : (pc after again : ℕ) → Stmts → List Instr
@@ -143,47 +143,47 @@ module _ (b : Frame) where
     code_of pc after again (Yield l) = instr.Yield (slot_of b l) ∷ []
     code_of pc after again (If on yes' no') =
         let first = length_all yes' in
-        choice pc on first (length_all no') (code_all (pc + 2) after again yes') (code_all (suc (pc + 2 + first)) after again no')
+        choice pc on first (length_all no') (code_all (pc + 2) after again yes') (code_all (pc + 2 + first + 1) after again no')
     code_of pc after again (While head on body) =
-        let first = suc pc + length_all body in
-        loop pc on (length_all body) (code_all (suc pc) (first + length_all head + 2) first body) (code_all first after again head)
+        let first = pc + 1 + length_all body in
+        loop pc on (length_all body) (code_all (pc + 1) (first + length_all head + 2) first body) (code_all first after again head)
     code_of pc after again Break = instr.Jump after ∷ []
     code_of pc after again Continue = instr.Jump again ∷ []
     code_of pc after again (Leave from) = leave b from
 
--- SIZES OF A FRAME
+-- SIZES OF A FRAME: the greatest of a number and of what each statement uses
 
--- the most index steps of a place that a statement opens and closes itself
-abbrev pub most : List core.Place → ℕ
-most [] = zero
-most (p ∷ ps) = max (indexes p.steps) (most ps)
+-- how many index steps a place has that a statement opens and closes itself
+abbrev pub most : ℕ → List core.Place → ℕ
+most n [] = n
+most n (p ∷ ps) = most (max n (indexes p.steps)) ps
 
-abbrev pub most_some : Option core.Place → ℕ
-most_some None = zero
-most_some (Some p) = indexes p.steps
+abbrev pub most_some : ℕ → Option core.Place → ℕ
+most_some n None = n
+most_some n (Some p) = max n (indexes p.steps)
 
 abbrev mutual
-  pub depth_all : Stmts → ℕ
-  depth_all Done = zero
-  depth_all (Then s ss) = max (depth_of s) (depth_all ss)
+  pub depth_all : ℕ → Stmts → ℕ
+  depth_all n Done = n
+  depth_all n (Then s ss) = depth_all (depth_of n s) ss
 
-  pub depth_of : Stmt → ℕ
-  depth_of (Built operator to from spans) = max (most_some to) (most from)
-  depth_of (Set to n) = indexes to.steps
-  depth_of (Lend to p w) = zero
-  depth_of (Close l) = zero
-  depth_of (Move to from) = max (indexes to.steps) (indexes from.steps)
-  depth_of (Copy to from) = max (indexes to.steps) (indexes from.steps)
-  depth_of (Drop p) = indexes p.steps
-  depth_of (Call fun lent owned to) = max (indexes to.steps) (most owned)
-  depth_of (Project fun lent owned to) = most owned
-  depth_of (Slide l) = zero
-  depth_of (Yield l) = zero
-  depth_of (If on yes' no') = max (depth_all yes') (depth_all no')
-  depth_of (While head on body) = max (depth_all head) (depth_all body)
-  depth_of Break = zero
-  depth_of Continue = zero
-  depth_of (Leave from) = indexes from.steps
+  pub depth_of : ℕ → Stmt → ℕ
+  depth_of n (Built operator to from spans) = most (most_some n to) from
+  depth_of n (Set to k) = max n (indexes to.steps)
+  depth_of n (Lend to p w) = n
+  depth_of n (Close l) = n
+  depth_of n (Move to from) = max (max n (indexes to.steps)) (indexes from.steps)
+  depth_of n (Copy to from) = max (max n (indexes to.steps)) (indexes from.steps)
+  depth_of n (Drop p) = max n (indexes p.steps)
+  depth_of n (Call fun lent owned to) = most (max n (indexes to.steps)) owned
+  depth_of n (Project fun lent owned to) = most n owned
+  depth_of n (Slide l) = n
+  depth_of n (Yield l) = n
+  depth_of n (If on yes' no') = depth_all (depth_all n yes') no'
+  depth_of n (While head on body) = depth_all (depth_all n head) body
+  depth_of n Break = n
+  depth_of n Continue = n
+  depth_of n (Leave from) = max n (indexes from.steps)
 
 module _ (b : Frame) where
   -- the words of these places together
@@ -199,52 +199,52 @@ module _ (b : Frame) where
   size_some None = zero
   size_some (Some p) = place_size b p
 
-  -- a word for each operand and one for the result; for a `Push` the element and for a `Pop` what it gives
+  -- a word for each operand and one for the result; for a `Push` the element, and for a `Pop` what it gives
   abbrev pub built_words : Operator → Option core.Place → List core.Place → ℕ
   built_words Push to from = rest_sizes from
   built_words Pop to from = size_some to
-  built_words Add to from = suc (length from)
-  built_words Sub to from = suc (length from)
-  built_words Mul to from = suc (length from)
-  built_words Div to from = suc (length from)
-  built_words Rem to from = suc (length from)
-  built_words Neg to from = suc (length from)
-  built_words (Convert t) to from = suc (length from)
-  built_words Eq to from = suc (length from)
-  built_words Lt to from = suc (length from)
-  built_words Le to from = suc (length from)
-  built_words Not to from = suc (length from)
-  built_words NewArray to from = suc (length from)
-  built_words Swap to from = suc (length from)
-  built_words Count to from = suc (length from)
-  built_words FreeArray to from = suc (length from)
-  built_words Print to from = suc (length from)
-  built_words Read to from = suc (length from)
-  built_words Check to from = suc (length from)
+  built_words Add to from = length from + 1
+  built_words Sub to from = length from + 1
+  built_words Mul to from = length from + 1
+  built_words Div to from = length from + 1
+  built_words Rem to from = length from + 1
+  built_words Neg to from = length from + 1
+  built_words (Convert t) to from = length from + 1
+  built_words Eq to from = length from + 1
+  built_words Lt to from = length from + 1
+  built_words Le to from = length from + 1
+  built_words Not to from = length from + 1
+  built_words NewArray to from = length from + 1
+  built_words Swap to from = length from + 1
+  built_words Count to from = length from + 1
+  built_words FreeArray to from = length from + 1
+  built_words Print to from = length from + 1
+  built_words Read to from = length from + 1
+  built_words Check to from = length from + 1
 
   -- the scratch words that the segments use
   abbrev mutual
-    pub scratch_all : Stmts → ℕ
-    scratch_all Done = zero
-    scratch_all (Then s ss) = max (scratch_of s) (scratch_all ss)
+    pub scratch_all : ℕ → Stmts → ℕ
+    scratch_all n Done = n
+    scratch_all n (Then s ss) = scratch_all (scratch_of n s) ss
 
-    pub scratch_of : Stmt → ℕ
-    scratch_of (Built operator to from spans) = built_words operator to from
-    scratch_of (Set to n) = place_size b to
-    scratch_of (Lend to p w) = zero
-    scratch_of (Close l) = zero
-    scratch_of (Move to from) = place_size b from
-    scratch_of (Copy to from) = place_size b from
-    scratch_of (Drop p) = zero
-    scratch_of (Call fun lent owned to) = max (all_sizes owned) (place_size b to)
-    scratch_of (Project fun lent owned to) = all_sizes owned
-    scratch_of (Slide l) = zero
-    scratch_of (Yield l) = zero
-    scratch_of (If on yes' no') = max 1 (max (scratch_all yes') (scratch_all no'))
-    scratch_of (While head on body) = max 1 (max (scratch_all head) (scratch_all body))
-    scratch_of Break = zero
-    scratch_of Continue = zero
-    scratch_of (Leave from) = place_size b from
+    pub scratch_of : ℕ → Stmt → ℕ
+    scratch_of n (Built operator to from spans) = max n (built_words operator to from)
+    scratch_of n (Set to k) = max n (place_size b to)
+    scratch_of n (Lend to p w) = n
+    scratch_of n (Close l) = n
+    scratch_of n (Move to from) = max (max n (place_size b to)) (place_size b from)
+    scratch_of n (Copy to from) = max (max n (place_size b to)) (place_size b from)
+    scratch_of n (Drop p) = n
+    scratch_of n (Call fun lent owned to) = max (max n (place_size b to)) (all_sizes owned)
+    scratch_of n (Project fun lent owned to) = max n (all_sizes owned)
+    scratch_of n (Slide l) = n
+    scratch_of n (Yield l) = n
+    scratch_of n (If on yes' no') = scratch_all (scratch_all (max n 1) yes') no'
+    scratch_of n (While head on body) = scratch_all (scratch_all (max n 1) head) body
+    scratch_of n Break = n
+    scratch_of n Continue = n
+    scratch_of n (Leave from) = max n (place_size b from)
 
 -- FUNCTIONS
 
@@ -257,21 +257,24 @@ result_size sizes f = if is_ramp f then zero else size_of sizes f.result
 abbrev pub body_code : Frame → Stmts → List Instr
 body_code b ss = code_all b zero zero zero ss ++ instr.Jump (length_all b ss) ∷ []
 
+-- a function with a body of that frame
+abbrev pub fun_from : Frame → (accesses owned result : ℕ) → Stmts → object.Fun
+fun_from b accesses owned result ss = record {
+  accesses = accesses;
+  owned = owned;
+  result = result;
+  words = b.scratch + scratch_all b zero ss;
+  slots = b.slot + depth_all zero ss;
+  code = body_code b ss;
+}
+
 abbrev pub fun_of : Table → List ℕ → Fun → object.Fun
-fun_of types sizes f =
-    let b = frame_of types sizes f in
-    record {
-      accesses = length f.lent;
-      owned = words_of sizes f.owned;
-      result = result_size sizes f;
-      words = b.scratch + scratch_all b f.body;
-      slots = b.slot + depth_all f.body;
-      code = body_code b f.body;
-    }
+fun_of types sizes f = fun_from (frame_of types sizes f) (length f.lent) (words_of sizes f.owned) (result_size sizes f) f.body
 
 -- The object has the functions of the core, in order, and its spans.
 pub record Lowered (core : Core) (object : Object) : Type 0 where
   pub sizes : List ℕ
+  pub each : length sizes ≡ length core.types.types
   pub are_sizes : AreSizes core.types sizes
   pub spans : object.spans ≡ core.spans
   pub funs : object.funs ≡ map (fun_of core.types sizes) core.funs

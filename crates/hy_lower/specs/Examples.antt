@@ -1,5 +1,5 @@
 -- Small cores, their code, and what it does: what the core does.
-use Rattle.std.specs.Prelude.{◌≡◌, ℕ, zero, suc, ◌==◌, ◌&&◌, Bool, true, false, List, [], ◌∷◌, ◌++◌, length, map, Option, Some, None, ℤ, pos, ◌-◌, codes}
+use Rattle.std.specs.Prelude.{◌≡◌, ℕ, ◌==◌, ◌&&◌, Bool, true, false, List, [], ◌∷◌, ◌++◌, length, map, Option, Some, None, ℤ, pos, ◌-◌, codes}
 use Rattle.hy_base.specs.declared.run.Counts.{Counts}
 use Rattle.hy_base.specs.declared.run.End.TheVariants as end
 use Rattle.hy_base.specs.declared.run.TrapKind.{TrapKind}
@@ -9,7 +9,7 @@ use Rattle.hy_core.specs.Plain as plain
 use Rattle.hy_core.specs.Control.{Halt, Ends, GivesUp}
 use Rattle.hy_core.specs.Control as control
 use Rattle.hy_core.specs.Meaning.{Report, Run}
-use Rattle.hy_core.specs.Notation.{types, done, ended, checked, index_span, trap_span}
+use Rattle.hy_core.specs.Notation.{done, ended, checked, index_span, trap_span}
 use Rattle.hy_core.specs.Examples as core
 use Rattle.hy_object.specs.declared.instr.Instr.{Instr}
 use Rattle.hy_object.specs.declared.instr.Instr.TheVariants.{Const, Copy, Move, Add, Lt, Jump, JumpIf, Call, Return, Lend, Elem, Close, NewArray, Grow, Push}

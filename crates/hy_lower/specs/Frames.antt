@@ -1,13 +1,13 @@
 -- Where the locals of a body stand: in words of the frame, or in slots.
-use Rattle.std.specs.Prelude.{◌≡◌, ℕ, zero, suc, ◌+◌, ◌-◌, ◌==◌, ◌||◌, Bool, true, false, cond, nat_lt, List, [], ◌∷◌, ◌++◌, length, Option, Some, None}
+use Rattle.std.specs.Prelude.{◌≡◌, ℕ, zero, suc, ◌+◌, ◌-◌, ◌==◌, ◌||◌, Bool, true, false, cond, nat_lt, List, [], ◌∷◌, ◌++◌, length}
 use Rattle.std.specs.Prelude.{slice_get, unwrap_or}
 use Rattle.hy_types.specs.declared.kinds.TyId.{TyId}
 use Rattle.hy_types.specs.Types.{Table}
 use Rattle.hy_types.specs.Words.{HasWords}
-use Rattle.hy_core.specs.Plain.{Step, Part, Index, Place, Stmts, Done, Then, Stmt, Built, Set, Lend, Close, Move, Copy, Drop, Call, Project, Slide, Yield}
+use Rattle.hy_core.specs.Plain.{Step, Part, Index, Stmts, Done, Then, Stmt, Built, Set, Lend, Close, Move, Copy, Drop, Call, Project, Slide, Yield}
 use Rattle.hy_core.specs.Plain.{If, While, Break, Continue, Leave, Fun, lent_types}
-use Rattle.hy_core.specs.Shaped.{filled_by, handed_by}
 use Rattle.hy_core.specs.Statements.{is_counted}
+pub use Rattle.hy_lower.specs.declared.body.Slots.{Slots}
 pub use Rattle.hy_lower.specs.declared.body.Home.{Home}
 pub use Rattle.hy_lower.specs.declared.body.Home.TheVariants.{Words, Slot}
 
@@ -45,10 +45,6 @@ abbrev pub times : ℕ → List ℕ → ℕ
 times l [] = zero
 times l (k ∷ ks) = cond (k == l) (suc (times l ks)) (times l ks)
 
-abbrev pub joined : List (List ℕ) → List ℕ
-joined [] = []
-joined (ls ∷ lists) = ls ++ joined lists
-
 -- those that are not in the other list
 abbrev pub missing : List ℕ → List ℕ → List ℕ
 missing others [] = []
@@ -75,41 +71,81 @@ all_but_last false n = n - 1
 abbrev pub on_the_way : List Step → ℕ
 on_the_way steps = all_but_last (is_counted steps) (indexes steps)
 
--- the locals of the `Lend`s, each once for each access that is opened on its way
+-- the list, and then the locals that a `Lend` or `Project` fills
 abbrev mutual
-  pub inner_by : Stmts → List ℕ
-  inner_by Done = []
-  inner_by (Then s ss) = inner s ++ inner_by ss
+  pub filled_after : List ℕ → Stmts → List ℕ
+  filled_after out Done = out
+  filled_after out (Then s ss) = filled_after (filled_one out s) ss
 
-  pub inner : Stmt → List ℕ
-  inner (Built operator to from spans) = []
-  inner (Set to n) = []
-  inner (Lend to place w) = so_many (on_the_way place.steps) to
-  inner (Close l) = []
-  inner (Move to from) = []
-  inner (Copy to from) = []
-  inner (Drop place) = []
-  inner (Call n lent owned to) = []
-  inner (Project n lent owned to) = []
-  inner (Slide l) = []
-  inner (Yield l) = []
-  inner (If on a b) = inner_by a ++ inner_by b
-  inner (While head on body) = inner_by head ++ inner_by body
-  inner Break = []
-  inner Continue = []
-  inner (Leave from) = []
+  pub filled_one : List ℕ → Stmt → List ℕ
+  filled_one out (Built operator to from spans) = out
+  filled_one out (Set to n) = out
+  filled_one out (Lend to place w) = out ++ to ∷ []
+  filled_one out (Close l) = out
+  filled_one out (Move to from) = out
+  filled_one out (Copy to from) = out
+  filled_one out (Drop place) = out
+  filled_one out (Call n lent owned to) = out
+  filled_one out (Project n lent owned to) = out ++ to ∷ []
+  filled_one out (Slide l) = out
+  filled_one out (Yield l) = out
+  filled_one out (If on a b) = filled_after (filled_after out a) b
+  filled_one out (While head on body) = filled_after (filled_after out head) body
+  filled_one out Break = out
+  filled_one out Continue = out
+  filled_one out (Leave from) = out
+
+-- the list, and then the locals that are handed over, each list in order
+abbrev mutual
+  pub handed_after : List ℕ → Stmts → List ℕ
+  handed_after out Done = out
+  handed_after out (Then s ss) = handed_after (handed_one out s) ss
+
+  pub handed_one : List ℕ → Stmt → List ℕ
+  handed_one out (Built operator to from spans) = out
+  handed_one out (Set to n) = out
+  handed_one out (Lend to place w) = out
+  handed_one out (Close l) = out
+  handed_one out (Move to from) = out
+  handed_one out (Copy to from) = out
+  handed_one out (Drop place) = out
+  handed_one out (Call n lent owned to) = out ++ lent
+  handed_one out (Project n lent owned to) = out ++ lent
+  handed_one out (Slide l) = out
+  handed_one out (Yield l) = out
+  handed_one out (If on a b) = handed_after (handed_after out a) b
+  handed_one out (While head on body) = handed_after (handed_after out head) body
+  handed_one out Break = out
+  handed_one out Continue = out
+  handed_one out (Leave from) = out
+
+-- the list, and then the locals of the `Lend`s, each once for each access that is opened on its way
+abbrev mutual
+  pub inner_after : List ℕ → Stmts → List ℕ
+  inner_after out Done = out
+  inner_after out (Then s ss) = inner_after (inner_one out s) ss
+
+  pub inner_one : List ℕ → Stmt → List ℕ
+  inner_one out (Built operator to from spans) = out
+  inner_one out (Set to n) = out
+  inner_one out (Lend to place w) = out ++ so_many (on_the_way place.steps) to
+  inner_one out (Close l) = out
+  inner_one out (Move to from) = out
+  inner_one out (Copy to from) = out
+  inner_one out (Drop place) = out
+  inner_one out (Call n lent owned to) = out
+  inner_one out (Project n lent owned to) = out
+  inner_one out (Slide l) = out
+  inner_one out (Yield l) = out
+  inner_one out (If on a b) = inner_after (inner_after out a) b
+  inner_one out (While head on body) = inner_after (inner_after out head) body
+  inner_one out Break = out
+  inner_one out Continue = out
+  inner_one out (Leave from) = out
 
 -- SLOTS: first those of the locals that the body is lent. Then each list of locals that is handed over, in the order of the list,
 -- and the other locals that a `Lend` or `Project` fills. Then the accesses on the way to what a `Lend` opens, and last those that
 -- a statement opens and closes itself.
-
--- What the homes of a body's locals are made of: how many it is lent, those that are filled, the order of the slots after those
--- that it is lent, and the accesses on the way.
-pub record Slots : Type 0 where
-  pub lent : ℕ
-  pub filled : List ℕ
-  pub order : List ℕ
-  pub inner : List ℕ
 
 abbrev pub order_of : (handed filled : List ℕ) → List ℕ
 order_of handed filled = handed ++ missing handed filled
@@ -117,9 +153,9 @@ order_of handed filled = handed ++ missing handed filled
 abbrev pub slots_of : Fun → Slots
 slots_of f = record {
   lent = length f.lent;
-  filled = filled_by f.body;
-  order = order_of (joined (handed_by f.body)) (filled_by f.body);
-  inner = inner_by f.body;
+  filled = filled_after [] f.body;
+  order = order_of (handed_after [] f.body) (filled_after [] f.body);
+  inner = inner_after [] f.body;
 }
 
 -- the slot of the first access on the way, and that of the first that a statement opens itself

@@ -1,6 +1,5 @@
 -- The segment of code of each form of statement.
 use Rattle.std.specs.Prelude.{ℕ, zero, suc, ◌+◌, Bool, true, false, List, [], ◌∷◌, ◌++◌, Option, Some, None, ℤ, pos, slice_get, unwrap_or}
-use Rattle.hy_types.specs.declared.kinds.TyId.{TyId}
 use Rattle.hy_core.specs.Plain.{Operator, Add, Sub, Mul, Div, Rem, Neg, Convert, Eq, Lt, Le, Not, NewArray, Push, Pop, Swap, Count, FreeArray, Print, Read}
 use Rattle.hy_core.specs.Plain.{Check}
 use Rattle.hy_core.specs.Plain as core
@@ -13,7 +12,7 @@ use Rattle.hy_object.specs.declared.instr.Shown.{Shown}
 use Rattle.hy_object.specs.declared.instr.Shown.TheVariants as shown
 use Rattle.hy_object.specs.declared.instr.Way.{Way}
 use Rattle.hy_object.specs.declared.instr.Way.TheVariants as way
-use Rattle.hy_lower.specs.Frames.{Home, Words, Slot, on_the_way, Frame, home_of, slot_in, slot_of}
+use Rattle.hy_lower.specs.Frames.{Home, Words, Slot, on_the_way, Frame, home_of, slot_of}
 use Rattle.hy_lower.specs.Arrays.{arrays_in}
 use Rattle.hy_lower.specs.Places.{own, place, Line, place_at, form_at, place_size, element_size, type_of, opens, reached, closes, at, through}
 
@@ -37,6 +36,17 @@ shown_as Unknown = shown.Int
 abbrev pub first_slot : Frame → List ℕ → ℕ
 first_slot b [] = zero
 first_slot b (l ∷ ls) = slot_of b l
+
+-- frees the arrays at these words of a place
+abbrev pub frees : Place → List ℕ → List Instr
+frees x [] = []
+frees x (offset ∷ offsets) = instr.FreeArray (place x.base (x.offset + offset)) ∷ frees x offsets
+
+-- The last access that a `Lend` opens is the local's: that of the last index step, or where the place does not end in one, one to
+-- its words.
+abbrev pub last : Bool → (slot : ℕ) → Place → (words : ℕ) → Way → List Instr
+last false slot x words w = []
+last true slot x words w = instr.Lend slot x words w ∷ []
 
 module _ (b : Frame) where
   -- VALUES: from a place to scratch words, and from there to a place
@@ -165,20 +175,11 @@ module _ (b : Frame) where
   abbrev pub copy : (to from : core.Place) → List Instr
   copy to from = read from b.scratch ++ write to b.scratch
 
-  abbrev pub frees : Place → List ℕ → List Instr
-  frees x [] = []
-  frees x (offset ∷ offsets) = instr.FreeArray (place x.base (x.offset + offset)) ∷ frees x offsets
-
   -- the arrays in what is given up are freed
   abbrev pub drop : core.Place → List Instr
   drop p = through b way.Write p (frees (at b p) (arrays_in b.types b.sizes (type_of b p)))
 
   -- LENDS
-
-  -- the last access is the local's: that of the last index step, or where the place does not end in one, one to its words
-  abbrev pub last : Bool → (slot : ℕ) → Place → (words : ℕ) → Way → List Instr
-  last false slot x words w = []
-  last true slot x words w = instr.Lend slot x words w ∷ []
 
   abbrev pub lend_to : Home → core.Place → Way → List Instr
   lend_to (Words w) p way = []

@@ -1,6 +1,7 @@
 // Bodies as their segments look at them.
 use hy_types::{TyId, TyTable};
 use sqlite_items::Items;
+use std::alloc::Global;
 
 /// Where a local of a body stands.
 #[derive(Clone, Copy, Debug, PartialEq, Eq)]
@@ -20,9 +21,23 @@ pub struct Line {
     pub last: u32,
 }
 
+/// What the homes of a body's locals are made of.
+#[derive(Drop)]
+pub(crate) struct Slots {
+    /// How many locals the body is lent.
+    pub lent: u32,
+    /// The locals that a `Lend` or `Project` fills.
+    pub filled: Items<u32>,
+    /// The locals of the slots after those that the body is lent, in order.
+    pub order: Items<u32>,
+    /// For each access on the way to what a `Lend` opens, the local.
+    pub inner: Items<u32>,
+}
+
 /// A body, as its segments look at it.
 #[derive(Drop)]
 pub(crate) struct Body<'a> {
+    pub alloc: Global,
     pub types: &'a TyTable,
     /// The words of each type, by its number.
     pub sizes: &'a [u32],

@@ -2,9 +2,11 @@
 ghost use Rattle.std.specs.Prelude.{◌≡◌, ◌+◌, ◌∷◌, ◌++◌, [], max, IfOk, OnOk};
 ghost use Rattle.hy_core.specs.Control.{element_type, form, part_type, parts_of, product_form};
 ghost use Rattle.hy_types.specs.Types.{declared};
+ghost use Rattle.hy_lower.specs.Segments.{shown_as};
 ghost use Rattle.hy_lower.specs.Frames.{size_of, words_before, words_of};
 
 use hy_base::NoMemory;
+use hy_object::Shown;
 use hy_types::{Ty, TyId, TyTable};
 
 /// A sum; one of 2^32 or more counts as out of memory.
@@ -107,5 +109,19 @@ pub(crate) fn element_of(types: &TyTable, t: TyId) -> Option<TyId>
     match types.get(t) {
         Ty::Array(element) => Some(*element),
         Ty::Product(_) | Ty::Tuple(_) | Ty::Int | Ty::Sized(_) | Ty::Bool | Ty::Param(_) => None,
+    }
+}
+
+/// What a value of a type is printed as.
+pub(crate) fn shown_as(types: &TyTable, t: TyId) -> Shown
+    ensures { result ≡ shown_as (form types.now t) }
+{
+    if !types.has(t) {
+        return Shown::Int;
+    }
+    match types.get(t) {
+        Ty::Bool => Shown::Bool,
+        Ty::Product(_) | Ty::Tuple(_) | Ty::Int | Ty::Sized(_) | Ty::Array(_) | Ty::Param(_) =>
+            Shown::Int,
     }
 }

@@ -1,16 +1,18 @@
 // Places of a body: how they are reached.
-ghost use Rattle.std.specs.Prelude.{◌≡◌, ◌++◌, map, suc, IfOk, OnOk, slice_get};
+ghost use Rattle.std.specs.Prelude.{◌≡◌, ◌++◌, ◌∷◌, [], map, suc, IfOk, OnOk, slice_get};
 ghost use Rattle.hy_core.specs.Denotes.{place_of, step_of};
 ghost use Rattle.hy_lower.specs.Denotes.{frame};
-ghost use Rattle.hy_lower.specs.Frames.{home_of, indexes, word_of};
-ghost use Rattle.hy_lower.specs.Places.{closes, element_at, element_size, line_for, opens, own, part_after, part_at, place};
+ghost use Rattle.hy_core.specs.Statements.{is_counted};
+ghost use Rattle.hy_lower.specs.Frames.{home_of, indexes, on_the_way, word_of};
+ghost use Rattle.hy_lower.specs.Places.{closes, element_at, element_size, line_for, opens, own, part_after, part_at, place, form_at};
+ghost use Rattle.hy_lower.specs.Segments.{shown_as};
 ghost use Rattle.hy_lower.specs.Places.{place_at, place_size, reached, rest, size_at, slot_now, type_of, type_step};
 
 use crate::body::{Body, Home, Line};
-use crate::numbers::{element_of, part_of, parts_of, plus, size_of, words_before};
+use crate::numbers::{element_of, part_of, parts_of, plus, shown_as, size_of, words_before};
 use hy_base::NoMemory;
 use hy_core::{CorePlace, CoreStep};
-use hy_object::{Instr, Place, Way};
+use hy_object::{Instr, Place, Shown, Way};
 use hy_types::TyId;
 use sqlite_items::Items;
 
@@ -122,6 +124,16 @@ fn size_at(body: &Body, t: Option<TyId>) -> u32
     }
 }
 
+/// What a value of the type is printed as.
+pub(crate) fn shown_at(body: &Body, t: Option<TyId>) -> Shown
+    ensures { result ≡ shown_as (form_at (frame body.now) t) }
+{
+    match t {
+        None => Shown::Int,
+        Some(t) => shown_as(body.types, t),
+    }
+}
+
 // The type after one step.
 fn type_step(body: &Body, t: Option<TyId>, step: CoreStep) -> Option<TyId>
     ensures { result ≡ type_step (frame body.now) t (step_of step) }
@@ -179,6 +191,41 @@ pub(crate) fn indexes(steps: &[CoreStep]) -> Result<u32, NoMemory>
         left = more;
     }
     Ok(count)
+}
+
+/// Whether a place does not end in an index step.
+pub(crate) fn is_counted(steps: &[CoreStep]) -> bool
+    ensures { result ≡ is_counted (map step_of steps.now) }
+{
+    let mut left = steps;
+    while let Some((step, more)) = left.split_first() {
+        if more.is_empty() {
+            return is_part(*step);
+        }
+        left = more;
+    }
+    true
+}
+
+fn is_part(step: CoreStep) -> bool
+    ensures { result ≡ is_counted (step_of step ∷ []) }
+{
+    match step {
+        CoreStep::Part(_) => true,
+        CoreStep::Index(_, _) => false,
+    }
+}
+
+/// The number of accesses that a `Lend` of the place opens on the way to it.
+pub(crate) fn on_the_way(steps: &[CoreStep]) -> Result<u32, NoMemory>
+    ensures { IfOk result (λ n. n ≡ on_the_way (map step_of steps.now)) }
+{
+    let count = indexes(steps)?;
+    if is_counted(steps) {
+        Ok(count)
+    } else {
+        Ok(count.saturating_sub(1))
+    }
 }
 
 // OPENING AND CLOSING

@@ -1,6 +1,6 @@
 use Rattle.std.proofs.Common.{refl}
 use Rattle.std.specs.Fmt.{digits}
-use Rattle.hy_lower.specs.Examples.{Examples, Codes, LentPlaces, Subscripts, OneWay, Loops, Inputs, Operations}
+use Rattle.hy_lower.specs.Examples.{Codes, LentPlaces, Subscripts, OneWay, Loops, Inputs, Operations}
 use Rattle.hy_lower.proofs.laws.examples.Goals as goal
 
 codes : Codes
