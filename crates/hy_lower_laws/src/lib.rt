@@ -1,0 +1,6 @@
+//! Laws of lowered code (`docs/LOWERING.md`): each is the contract of a function that does nothing.
+#![tactic(auto)]
+
+mod laws;
+
+pub use laws::lengths_are_right;
