@@ -1,3 +1,4 @@
 pub mod Lengths
 pub mod Stands
 pub mod OwnWords
+pub mod Simulates
