@@ -1,1 +1,4 @@
+pub mod Knowing
 pub mod Lists
+pub mod PartValues
+pub mod Spans

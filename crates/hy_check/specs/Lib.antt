@@ -1,5 +1,7 @@
 pub mod Endless
 pub mod Facts
+pub mod Known
+pub mod KnownShown
 pub mod Noted
 pub mod Phrases
 pub mod Places
@@ -8,3 +10,4 @@ pub mod Refusals
 pub mod Returns
 pub mod Typing
 pub mod Uses
+pub mod ValuesShown
