@@ -1,0 +1,6 @@
+pub mod Closing
+pub mod Entering
+pub mod Joining
+pub mod Leaving
+pub mod Taking
+pub mod Ways
