@@ -1,1 +1,6 @@
 mod Copies
+mod Turns
+mod TurnsOfExpressions
+mod TurnsOfLives
+mod TurnsOfOpening
+mod TurnsOfStatements

@@ -69,7 +69,7 @@ changes f env s = Gives tt (f env) s
 abbrev pub declares : Entry → Acts
 declares e = changes (λ env. record env { locals = e ∷ env.locals })
 
-abbrev taken : List Entry → Env → State → Outcome (Option Entry)
+abbrev pub taken : List Entry → Env → State → Outcome (Option Entry)
 taken [] env s = Gives None env s
 taken (e ∷ more) env s = Gives (Some e) (record env { locals = more }) s
 
@@ -79,10 +79,10 @@ take_newest env s = taken env.locals env s
 
 -- EVENTS
 
-abbrev with_events : ℕ → State → State
+abbrev pub with_events : ℕ → State → State
 with_events n s = record s { events = Some n }
 
-abbrev allowed : Option ℕ → Event → Acts
+abbrev pub allowed : Option ℕ → Event → Acts
 allowed None e env s = Gives tt env s
 allowed (Some zero) e env s = Stops (Before e) s
 allowed (Some (suc n)) e env s = Gives tt env (with_events n s)
@@ -91,7 +91,7 @@ allowed (Some (suc n)) e env s = Gives tt env (with_events n s)
 abbrev pub happens : Event → Acts
 happens e env s = allowed s.events e env s
 
-abbrev one_opened : Acts
+abbrev pub one_opened : Acts
 one_opened env s = Gives tt env (record s { opened = suc s.opened })
 
 -- One more place was opened.
@@ -100,10 +100,10 @@ count = do
   happens Opens
   one_opened
 
-abbrev with_turns : ℕ → Acts
+abbrev pub with_turns : ℕ → Acts
 with_turns n env s = Gives tt env (record s { turns = n })
 
-abbrev turn_of : ℕ → Acts
+abbrev pub turn_of : ℕ → Acts
 turn_of zero = halt (Ends end.Spent)
 turn_of (suc n) = do
   happens TakesTurn
@@ -113,7 +113,7 @@ turn_of (suc n) = do
 abbrev pub turn : Acts
 turn env s = turn_of s.turns env s
 
-abbrev of_slid : Slid → Does (List Val)
+abbrev pub of_slid : Slid → Does (List Val)
 of_slid (Back parameters t) env s = Gives parameters env t
 of_slid (Late h t) env s = Stops h t
 

@@ -38,7 +38,7 @@ pub data Ready : Type 0 where
 -- BY USE
 
 -- an owned result that is read or lent is a temporary
-abbrev becomes_temporary : Known → (node : ℕ) → Val → Does Located
+abbrev pub becomes_temporary : Known → (node : ℕ) → Val → Does Located
 becomes_temporary known node v = do
   changes (λ env. record env { temporaries = record { root = Temporary node; type = type_at known node; value = v; standing = Owned } ∷ env.temporaries })
   give (Rooted (Temporary node))
@@ -61,18 +61,18 @@ takes later (Is place) = moves later place
 takes later (Has v) = give v
 takes later (Awaits sig arguments) = impossible
 
-abbrev takes_argument : Later → Ready → Does (Arguments → Arguments)
+abbrev pub takes_argument : Later → Ready → Does (Arguments → Arguments)
 takes_argument later ready = do
   v ← takes later ready
   give (λ more. Moved v more)
 
-abbrev lends_argument : Later → Use → (node : ℕ) → Ready → Does (Arguments → Arguments)
+abbrev pub lends_argument : Later → Use → (node : ℕ) → Ready → Does (Arguments → Arguments)
 lends_argument later used node ready = do
   place ← placed later node ready
   give (λ more. Lent used place more)
 
 -- an argument or a receiver, in front of further arguments
-abbrev passes : Later → Use → (node : ℕ) → Ready → Does (Arguments → Arguments)
+abbrev pub passes : Later → Use → (node : ℕ) → Ready → Does (Arguments → Arguments)
 passes later U.Sink node ready = takes_argument later ready
 passes later U.Read node ready = lends_argument later U.Read node ready
 passes later U.Let node ready = lends_argument later U.Let node ready
@@ -84,68 +84,68 @@ passes later U.Compound node ready = lends_argument later U.Compound node ready
 -- NAMES AND STEPS
 
 -- a variable, a field of `self`; a name that is called has no value
-abbrev named : Known → Meant → Ready
+abbrev pub named : Known → Meant → Ready
 named known (meant.Local node) = Is (Rooted (Local node))
 named known (meant.SelfField node) = Is (PartIn (Rooted Itself) (place_of_field known.source node))
 named known meaning = Has Unset
 
-abbrev part_or : Later → (node : ℕ) → Ready → Option ℕ → Does Ready
+abbrev pub part_or : Later → (node : ℕ) → Ready → Option ℕ → Does Ready
 part_or later node before None = give before
 part_or later node before (Some k) = do
   whole ← placed later node before
   give (Is (PartIn whole k))
 
-abbrev number_of : ℤ → Option ℕ
+abbrev pub number_of : ℤ → Option ℕ
 number_of (pos k) = Some k
 number_of (negsuc k) = None
 
 -- The field of what stands before, whose node is given. The name of a method or subscript is no field, and its arguments follow.
-abbrev steps_to_field : Later → (node : ℕ) → Ready → List ℕ → Does Ready
+abbrev pub steps_to_field : Later → (node : ℕ) → Ready → List ℕ → Does Ready
 steps_to_field later node before name = part_or later node before (place_named name (fields_of later.known.source (type_at later.known node)))
 
 -- CALLS
 
-abbrev receives : Later → Option Use → (node : ℕ) → Ready → Does (Arguments → Arguments)
+abbrev pub receives : Later → Option Use → (node : ℕ) → Ready → Does (Arguments → Arguments)
 receives later None node before = give (λ arguments. arguments)
 receives later (Some used) node before = passes later used node before
 
-abbrev moved_in : Arguments → Vals
+abbrev pub moved_in : Arguments → Vals
 moved_in NoArgument = No
 moved_in (Moved v more) = And v (moved_in more)
 moved_in (Lent used place more) = moved_in more
 
 -- an index that is a place is read now
-abbrev indexes : Later → Span → Located → Arguments → Does Ready
+abbrev pub indexes : Later → Span → Located → Arguments → Does Ready
 indexes later span array NoArgument = impossible
 indexes later span array (Moved v more) = impossible
 indexes later span array (Lent used index more) = do
   v ← reads later index
   give (Is (ElementIn array (integer_in v) span))
 
-abbrev element : Later → Span → Arguments → Does Ready
+abbrev pub element : Later → Span → Arguments → Does Ready
 element later span NoArgument = impossible
 element later span (Moved v more) = impossible
 element later span (Lent used array more) = indexes later span array more
 
-abbrev results : Does Val → Does Ready
+abbrev pub results : Does Val → Does Ready
 results does = do
   v ← does
   give (Has v)
 
 -- What yields is opened later; a `set` variant waits for the new value; all else runs now.
-abbrev subscripted : Later → Sig → PlainType → Arguments → Mode → Does Ready
+abbrev pub subscripted : Later → Sig → PlainType → Arguments → Mode → Does Ready
 subscripted later sig type arguments mode.Let = give (Is (YieldedIn sig type arguments))
 subscripted later sig type arguments mode.Inout = give (Is (YieldedIn sig type arguments))
 subscripted later sig type arguments mode.Set = give (Awaits sig arguments)
 subscripted later sig type arguments mode.Sink = results (calls later sig arguments)
 subscripted later sig type arguments mode.Yielded = impossible
 
-abbrev converted : PlainType → Span → List Val → Does Worked
+abbrev pub converted : PlainType → Span → List Val → Does Worked
 converted to span values = do
   v ← converts to span (first values)
   gives_only v values
 
-abbrev invokes : Later → Sig → T.At → List Span → Arguments → Callee → Does Ready
+abbrev pub invokes : Later → Sig → T.At → List Span → Arguments → Callee → Does Ready
 invokes later sig at spans arguments (S.Declared node) =
     when (is_subscript later.known.source node) (subscripted later sig (type_at later.known at.node) arguments sig.variant)
     (results (calls later sig arguments))
@@ -156,72 +156,76 @@ invokes later sig at spans arguments (S.Conversion to) = results (with_open late
 invokes later sig at spans arguments S.Element = element later (span_or spans at.span) arguments
 
 -- a call at a step, on what stands before it, with its arguments in parentheses or brackets
-abbrev applies : Later → T.At → (node : ℕ) → (before : Ready) → Option Sig → (List Use → Does Arguments) → List Span → Does Ready
+abbrev pub applies : Later → T.At → (node : ℕ) → (before : Ready) → Option Sig → (List Use → Does Arguments) → List Span → Does Ready
 applies later at node before None arguments spans = impossible
 applies later at node before (Some sig) arguments spans = do
   on ← receives later sig.receiver node before
   given ← arguments sig.arguments
   invokes later sig at spans (on given) sig.callee
 
-abbrev no_arguments : List Use → Does Arguments
+abbrev pub no_arguments : List Use → Does Arguments
 no_arguments uses = give NoArgument
 
 -- a member is the count of an array, which is called, or a field, or the name of the call that follows
-abbrev steps_to_member : Later → T.At → (node : ℕ) → Ready → List ℕ → Option Sig → Does Ready
+abbrev pub steps_to_member : Later → T.At → (node : ℕ) → Ready → List ℕ → Option Sig → Does Ready
 steps_to_member later at node before name None = steps_to_field later node before name
 steps_to_member later at node before name (Some sig) = applies later at node before (Some sig) no_arguments []
 
-abbrev spans_of : T.Args → List Span
+abbrev pub spans_of : T.Args → List Span
 spans_of T.NoArg = []
 spans_of (T.ThenArg label value more) = (T.at_expr value).span ∷ spans_of more
 
 -- OPERATORS
 
-abbrev of_two : Operator → Span → List Val → Does Worked
+abbrev pub of_two : Operator → Span → List Val → Does Worked
 of_two o span values = do
   v ← operates o span (first values) (first (rest values))
   gives_only v values
 
-abbrev both : Later → Operator → Span → Located → Located → Does Val
+abbrev pub both : Later → Operator → Span → Located → Located → Does Val
 both later o span left right = with_open later false (Lent U.Read left (Lent U.Read right NoArgument)) (of_two o span)
 
-abbrev of_one : UnaryOperator → Span → List Val → Does Worked
+abbrev pub of_one : UnaryOperator → Span → List Val → Does Worked
 of_one o span values = do
   v ← operates_alone o span (first values)
   gives_only v values
 
-abbrev alone : Later → UnaryOperator → Span → Located → Does Val
+abbrev pub alone : Later → UnaryOperator → Span → Located → Does Val
 alone later o span operand = with_open later false (Lent U.Read operand NoArgument) (of_one o span)
 
+-- the value parts of both operands, and then their places
+abbrev pub operands : Later → Operator → Span → (left_node : ℕ) → Ready → (right_node : ℕ) → Does Ready → Does Val
+operands later o span left_node left right_node right = do
+  first_place ← placed later left_node left
+  of ← right
+  second_place ← placed later right_node of
+  both later o span first_place second_place
+
 -- `&&` and `||` read the left side, and the right side only where that decides nothing. The right side is a statement of its own.
-abbrev right_side : Later → (node : ℕ) → Does Ready → Does Val
+abbrev pub right_side : Later → (node : ℕ) → Does Ready → Does Val
 right_side later node right =
     as_statement later
     (do
       ready ← right
       looked_at later node ready)
 
-abbrev joins : Later → Operator → Span → (left_node : ℕ) → Ready → (right_node : ℕ) → Does Ready → Does Val
+abbrev pub joins : Later → Operator → Span → (left_node : ℕ) → Ready → (right_node : ℕ) → Does Ready → Does Val
 joins later operator.And span left_node left right_node right = do
   v ← looked_at later left_node left
   when (is_true v) (right_side later right_node right) (give (Truth false))
 joins later operator.Or span left_node left right_node right = do
   v ← looked_at later left_node left
   when (is_true v) (give (Truth true)) (right_side later right_node right)
-joins later o span left_node left right_node right = do
-  first_place ← placed later left_node left
-  ready ← right
-  second_place ← placed later right_node ready
-  both later o span first_place second_place
+joins later o span left_node left right_node right = operands later o span left_node left right_node right
 
 -- EXPRESSIONS
 
-abbrev node_if : Option PlainType → (step before : ℕ) → ℕ
+abbrev pub node_if : Option PlainType → (step before : ℕ) → ℕ
 node_if None step before = before
 node_if (Some type) step before = step
 
 -- the node of what stands after a step: the name of a call that follows is nothing by itself
-abbrev node_after : Known → (before : ℕ) → T.Step → ℕ
+abbrev pub node_after : Known → (before : ℕ) → T.Step → ℕ
 node_after known before step = node_if (known.type (T.at_step step).node) (T.at_step step).node before
 
 -- the node of an expression
@@ -260,7 +264,7 @@ abbrev mutual
         takes later of))
 
   -- parts of a tuple, or elements of an array
-  all_taken : Later → T.Exprs → Does Vals
+  pub all_taken : Later → T.Exprs → Does Vals
   all_taken later T.NoExpr = give No
   all_taken later (T.ThenExpr e more) = do
     of ← ready later e
@@ -269,27 +273,27 @@ abbrev mutual
     give (And v vs)
 
   -- a chain of operators, with the left operand of the first, whose node is given
-  links_on : Later → (node : ℕ) → Ready → T.Links → Does Ready
+  pub links_on : Later → (node : ℕ) → Ready → T.Links → Does Ready
   links_on later node left T.NoLink = give left
   links_on later node left (T.ThenLink o token operand at more) = do
     v ← joins later o at.span node left (node_of operand) (ready later operand)
     links_on later at.node (Has v) more
 
   -- further steps, after what stands before them, whose node is given
-  steps_on : Later → (node : ℕ) → Ready → T.Steps → Does Ready
+  pub steps_on : Later → (node : ℕ) → Ready → T.Steps → Does Ready
   steps_on later node before T.NoStep = give before
   steps_on later node before (T.ThenStep step more) = do
     next ← step_on later node before step
     steps_on later (node_after later.known node step) next more
 
-  step_on : Later → (node : ℕ) → Ready → T.Step → Does Ready
+  pub step_on : Later → (node : ℕ) → Ready → T.Step → Does Ready
   step_on later node before (T.MemberStep name at) = steps_to_member later at node before name.text (later.known.call at.node)
   step_on later node before (T.PartStep number at) = part_or later node before (number_of number)
   step_on later node before (T.CallStep args at) = applies later at node before (later.known.call at.node) (passed later args) (spans_of args)
   step_on later node before (T.IndexStep args at) = applies later at node before (later.known.call at.node) (passed later args) (spans_of args)
 
   -- arguments that are used so
-  passed : Later → T.Args → List Use → Does Arguments
+  pub passed : Later → T.Args → List Use → Does Arguments
   passed later T.NoArg uses = give NoArgument
   passed later (T.ThenArg label value more) uses = do
     of ← ready later value
@@ -298,7 +302,7 @@ abbrev mutual
     give (one others)
 
   -- the value of the first `if` whose condition is true; conditions and values are statements of their own
-  chooses : Later → T.Choices → (otherwise : Does Val) → Does Val
+  pub chooses : Later → T.Choices → (otherwise : Does Val) → Does Val
   chooses later T.NoChoice otherwise = as_statement later otherwise
   chooses later (T.ThenChoice token condition value more) otherwise = do
     holds ← as_statement later

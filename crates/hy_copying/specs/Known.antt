@@ -23,10 +23,10 @@ pub record Known : Type 0 where
   pub type : ℕ → Option PlainType
   pub call : ℕ → Option Sig
 
-abbrev known_with : Source → List Fact → Known
+abbrev pub known_with : Source → List Fact → Known
 known_with source all = record { source = source; type = λ node. type_among node all; call = λ node. call_among node all }
 
-abbrev known_in : Source → Known
+abbrev pub known_in : Source → Known
 known_in source = known_with source (facts source)
 
 -- what is known of a numbered tree
@@ -39,11 +39,11 @@ type_at known node = unwrap_or (known.type node) unit
 
 -- NAMES
 
-abbrev is_local : ℕ → Meant → Truth
+abbrev pub is_local : ℕ → Meant → Truth
 is_local node (meant.Local other) = node == other
 is_local node other = false
 
-abbrev some_mentions : Source → ℕ → List ℕ → Truth
+abbrev pub some_mentions : Source → ℕ → List ℕ → Truth
 some_mentions source node [] = false
 some_mentions source node (name ∷ more) = is_local node (source.meant name) || some_mentions source node more
 
@@ -59,15 +59,15 @@ abbrev pub place_named : List ℕ → List Field → Option ℕ
 place_named name [] = None
 place_named name (field ∷ more) = cond (bytes_eq name field.name) (Some 0) (option_map (λ n. suc n) (place_named name more))
 
-abbrev place_among : ℕ → List Field → Option ℕ
+abbrev pub place_among : ℕ → List Field → Option ℕ
 place_among node [] = None
 place_among node (field ∷ more) = cond (field.node == node) (Some 0) (option_map (λ n. suc n) (place_among node more))
 
-abbrev place_in : Source → ℕ → T.DeclKind → Option ℕ
+abbrev pub place_in : Source → ℕ → T.DeclKind → Option ℕ
 place_in source node (T.DeclProduct p) = place_among node (fields_among source p.members)
 place_in source node other = None
 
-abbrev place_in_some : Source → ℕ → List T.Decl → Option ℕ
+abbrev pub place_in_some : Source → ℕ → List T.Decl → Option ℕ
 place_in_some source node [] = None
 place_in_some source node (decl ∷ more) = or (place_in source node decl.kind) (place_in_some source node more)
 
@@ -77,17 +77,17 @@ place_of_field source node = unwrap_or (place_in_some source node source.decls) 
 
 -- BODIES
 
-abbrev owner_if : Option T.Callable → PlainType → Option PlainType
+abbrev pub owner_if : Option T.Callable → PlainType → Option PlainType
 owner_if None type = None
 owner_if (Some c) type = Some type
 
-abbrev owner_in : Source → ℕ → T.DeclKind → Option PlainType
+abbrev pub owner_in : Source → ℕ → T.DeclKind → Option PlainType
 owner_in source node (T.DeclCallable c) = None
 owner_in source node (T.DeclProduct p) = owner_if (callable_among node p.members) (Y.Product p.at.node)
 owner_in source node (T.DeclTrait t) = None
 owner_in source node (T.DeclConform c) = owner_if (callable_among node c.members) (named_type source c.target.node)
 
-abbrev owner_among : Source → ℕ → List T.Decl → Option PlainType
+abbrev pub owner_among : Source → ℕ → List T.Decl → Option PlainType
 owner_among source node [] = None
 owner_among source node (decl ∷ more) = or (owner_in source node decl.kind) (owner_among source node more)
 
@@ -100,11 +100,11 @@ abbrev pub variant_for : Mode → List T.Variant → Option T.Variant
 variant_for wanted [] = None
 variant_for wanted (v ∷ more) = cond (same_mode wanted v.mode) (Some v) (variant_for wanted more)
 
-abbrev deinit_in : T.MemberKind → Option ℕ
+abbrev pub deinit_in : T.MemberKind → Option ℕ
 deinit_in (T.MemberCallable c) = cond (same_kind c.kind kind.Deinit) (Some c.at.node) None
 deinit_in other = None
 
-abbrev deinit_among : List T.Member → Option ℕ
+abbrev pub deinit_among : List T.Member → Option ℕ
 deinit_among [] = None
 deinit_among (member ∷ more) = or (deinit_in member.kind) (deinit_among more)
 
@@ -112,7 +112,7 @@ deinit_among (member ∷ more) = or (deinit_in member.kind) (deinit_among more)
 abbrev pub deinit_of : Source → (product : ℕ) → Option ℕ
 deinit_of source product = deinit_among (members_of source (Y.Product product))
 
-abbrev is_subscript_kind : Option T.Callable → Truth
+abbrev pub is_subscript_kind : Option T.Callable → Truth
 is_subscript_kind None = false
 is_subscript_kind (Some c) = same_kind c.kind kind.Subscript
 
@@ -120,11 +120,11 @@ is_subscript_kind (Some c) = same_kind c.kind kind.Subscript
 abbrev pub is_subscript : Source → ℕ → Truth
 is_subscript source node = is_subscript_kind (callable_at node source.decls)
 
-abbrev main_in : T.DeclKind → Option ℕ
+abbrev pub main_in : T.DeclKind → Option ℕ
 main_in (T.DeclCallable c) = cond (same_kind c.kind kind.Function && bytes_eq (own_name c) (codes "main()")) (Some c.at.node) None
 main_in other = None
 
-abbrev main_among : List T.Decl → Option ℕ
+abbrev pub main_among : List T.Decl → Option ℕ
 main_among [] = None
 main_among (decl ∷ more) = or (main_in decl.kind) (main_among more)
 

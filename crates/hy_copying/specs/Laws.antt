@@ -1,5 +1,5 @@
 -- Laws of the copying meaning.
-use Rattle.std.specs.Prelude.{◌≡◌, ℕ, suc, ◌+◌, ◌-◌, Bool, false, List, [], ◌∷◌, length, None}
+use Rattle.std.specs.Prelude.{◌≡◌, ℕ, suc, ◌+◌, ◌-◌, Bool, false, List, [], ◌∷◌, length, Option, None}
 use Rattle.hy_base.specs.declared.run.End.TheVariants as end
 use Rattle.hy_tree.specs.Tree as T
 use Rattle.hy_check.specs.Uses as U
@@ -9,13 +9,19 @@ use Rattle.hy_copying.specs.Places.{Root, Local, Rooted, NoArgument, Lent, Entry
 use Rattle.hy_copying.specs.Does.{Gives}
 use Rattle.hy_copying.specs.Lives.{Later, copies}
 use Rattle.hy_copying.specs.Opening.{reads, moves, with_open}
-use Rattle.hy_copying.specs.Meaning.{mean}
+use Rattle.hy_copying.specs.Meaning.{run, mean}
 
 -- A run with no turns is spent, and has done nothing.
 abbrev pub NothingIsDoneWithoutATurn : Type 0
 NothingIsDoneWithoutATurn =
     (tree : T.Program) (input : List ℕ) (cut : Bool)
     → mean tree input cut 0 ≡ record { output = []; halt = Ends end.Spent; taken = length input - length input; turns = 0; opened = 0 }
+
+-- A run that is spent has taken all turns that it may take.
+abbrev pub SpentRunsTookAllTurns : Type 0
+SpentRunsTookAllTurns =
+    (tree : T.Program) (input : List ℕ) (cut : Bool) (n : ℕ) (events : Option ℕ)
+    → (run tree input cut n events).halt ≡ Ends end.Spent → (run tree input cut n events).turns ≡ n
 
 -- COPIES
 

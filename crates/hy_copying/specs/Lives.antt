@@ -33,16 +33,16 @@ pub data Visit : Type 0 where
   Deinitialising : Visit
 
 -- the body of a `deinit` with `self` lent for change; the parts of what is then in `self` follow
-abbrev after_deinit : Later → Came → Acts
+abbrev pub after_deinit : Later → Came → Acts
 after_deinit later (Returned v parameters t) env s = later.parts (first parameters) env t
 after_deinit later (Yielded v t slide) env s = impossible env t
 after_deinit later (Halted h t) env s = Stops h t
 
-abbrev runs_deinit : Later → (deinit : ℕ) → Val → Acts
+abbrev pub runs_deinit : Later → (deinit : ℕ) → Val → Acts
 runs_deinit later node v env s = after_deinit later (later.body node mode.Inout (v ∷ []) s) env s
 
 -- Where a part is unset, at any depth, no body of the product itself runs.
-abbrev product_ends : Later → Option ℕ → (whole : Bool) → Val → (parts : Acts) → Acts
+abbrev pub product_ends : Later → Option ℕ → (whole : Bool) → Val → (parts : Acts) → Acts
 product_ends later None whole v parts = parts
 product_ends later (Some node) false v parts = parts
 product_ends later (Some node) true v parts = do
@@ -50,7 +50,7 @@ product_ends later (Some node) true v parts = do
   turn
   runs_deinit later node v
 
-abbrev product_visited : Later → Visit → ℕ → Vals → (parts : Acts) → Acts
+abbrev pub product_visited : Later → Visit → ℕ → Vals → (parts : Acts) → Acts
 product_visited later Copying d vs parts = parts
 product_visited later Deinitialising d vs parts = product_ends later (deinit_of later.known.source d) (all_whole vs) (Product d vs) parts
 
@@ -95,7 +95,7 @@ deinitialises_parts later v = visits_parts later Deinitialising (parts_in v)
 
 -- TEMPORARIES
 
-abbrev dies : Later → Standing → Entry → (others : Does (List Entry)) → Does (List Entry)
+abbrev pub dies : Later → Standing → Entry → (others : Does (List Entry)) → Does (List Entry)
 dies later Owned e others = do
   deinitialises later e.value
   others
@@ -106,7 +106,7 @@ dies later Held e others = do
   give (e ∷ left)
 
 -- so many of these entries die, the newest first, save those that are held
-abbrev die : Later → ℕ → List Entry → Does (List Entry)
+abbrev pub die : Later → ℕ → List Entry → Does (List Entry)
 die later zero entries = give entries
 die later (suc n) [] = give []
 die later (suc n) (e ∷ more) = dies later e.standing e (die later n more)
@@ -129,7 +129,7 @@ as_statement later does env s =
     env s
 
 -- One that was held dies.
-abbrev let_go : Later → ℕ → Acts
+abbrev pub let_go : Later → ℕ → Acts
 let_go later node env s =
     (do
       changes (λ env. without node env)

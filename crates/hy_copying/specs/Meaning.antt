@@ -32,23 +32,23 @@ pub record Report : Type 0 where
   pub turns : ℕ
   pub opened : ℕ
 
-abbrev report : (input : List ℕ) → (n : ℕ) → Halt → State → Report
+abbrev pub report : (input : List ℕ) → (n : ℕ) → Halt → State → Report
 report input n h s = record { output = s.output; halt = h; taken = length input - length s.input; turns = n - s.turns; opened = s.opened }
 
-abbrev ended : (input : List ℕ) → (n : ℕ) → Came → Report
+abbrev pub ended : (input : List ℕ) → (n : ℕ) → Came → Report
 ended input n (Returned v parameters s) = report input n (Ends end.Done) s
 ended input n (Yielded v s slide) = report input n (Ends end.Done) s
 ended input n (Halted h s) = report input n h s
 
-abbrev start : (input : List ℕ) → (cut : Bool) → (n : ℕ) → (events : Option ℕ) → State
+abbrev pub start : (input : List ℕ) → (cut : Bool) → (n : ℕ) → (events : Option ℕ) → State
 start input cut n events = record { input = input; cut = cut; output = []; turns = n; opened = 0; events = events }
 
-abbrev begun : Later → Outcome (Unit {0}) → Came
+abbrev pub begun : Later → Outcome (Unit {0}) → Came
 begun later (Gives given env s) = later.body (main_of later.known.source) mode.Let [] s
 begun later (Yields v s resumed) = Halted (Ends end.Done) s
 begun later (Stops h s) = Halted h s
 
-abbrev runs_main : Later → State → Came
+abbrev pub runs_main : Later → State → Came
 runs_main later s = begun later (turn (record { locals = []; temporaries = [] }) s)
 
 -- A run of `main` of a numbered tree that breaks no rule: on this input, which is a beginning only where `cut` holds, with at most n turns,

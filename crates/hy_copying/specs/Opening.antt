@@ -44,7 +44,7 @@ is_filled U.Sink = false
 is_filled U.Assigned = true
 is_filled U.Compound = false
 
-abbrev when_changed : Bool → Val → Option Val
+abbrev pub when_changed : Bool → Val → Option Val
 when_changed true v = Some v
 when_changed false v = None
 
@@ -53,7 +53,7 @@ abbrev pub put_back : Use → Val → Option Val
 put_back used v = when_changed (is_changed used) v
 
 -- what a call begins with in a place that is used so
-abbrev starts : Later → (filled : Bool) → Val → Does Val
+abbrev pub starts : Later → (filled : Bool) → Val → Does Val
 starts later false v = give v
 starts later true v = do
   deinitialises later v
@@ -61,11 +61,11 @@ starts later true v = do
 
 -- CLOSING
 
-abbrev yielded_value : PlainType → Path → (yielded : Val) → Option Val → Known → Val
+abbrev pub yielded_value : PlainType → Path → (yielded : Val) → Option Val → Known → Val
 yielded_value type path yielded None known = yielded
 yielded_value type path yielded (Some v) known = put_at known.source type path v yielded
 
-abbrev put_or_not : Known → Opened → Option Val → Acts
+abbrev pub put_or_not : Known → Opened → Option Val → Acts
 put_or_not known (InEntry root path) (Some v) = changes (λ env. put_in known.source root path v env)
 put_or_not known other v = nothing
 
@@ -88,17 +88,17 @@ abbrev mutual
 
 -- BODIES
 
-abbrev node_of_member : Option T.Callable → ℕ
+abbrev pub node_of_member : Option T.Callable → ℕ
 node_of_member None = 0
 node_of_member (Some c) = c.at.node
 
-abbrev met_by : Source → PlainType → Option T.Callable → ℕ
+abbrev pub met_by : Source → PlainType → Option T.Callable → ℕ
 met_by source type None = 0
 met_by source type (Some requirement) = node_of_member (callable_named kind.Function (own_name requirement) (members_of source type))
 
 -- The declaration that is called. What a trait requires is the member with its name and labels in the type that the receiver's value
 -- names.
-abbrev called : Source → Callee → (receiver : Val) → ℕ
+abbrev pub called : Source → Callee → (receiver : Val) → ℕ
 called source (S.Declared node) receiver = node
 called source (S.Required requirement place) receiver = met_by source (type_named receiver) (callable_at requirement source.decls)
 called source (S.Predeclared number) receiver = 0
@@ -106,14 +106,9 @@ called source (S.Initialiser product) receiver = 0
 called source (S.Conversion to) receiver = 0
 called source S.Element receiver = 0
 
-abbrev enters : Later → Sig → List Val → Does Came
+-- the body that is called, once its turn is taken
+abbrev pub enters : Later → Sig → List Val → Does Came
 enters later sig values env s = Gives (later.body (called later.known.source sig.callee (first values)) sig.variant values s) env s
-
--- the turn of a body, and then the body
-abbrev runs : Later → Sig → List Val → Does Came
-runs later sig values = do
-  turn
-  enters later sig values
 
 -- OPENING
 
@@ -127,14 +122,14 @@ pub record Places : Type 0 where
   pub opened : Openeds
   pub values : List Val
 
-abbrev part_of : Place → ℕ → Place
+abbrev pub part_of : Place → ℕ → Place
 part_of p k = record { opened = inner (PartAt k) p.opened; value = part (PartAt k) p.value }
 
-abbrev element_of : Place → ℕ → Place
+abbrev pub element_of : Place → ℕ → Place
 element_of p k = record { opened = inner (ElementAt k) p.opened; value = part (ElementAt k) p.value }
 
 -- an index outside the array traps, and is not counted
-abbrev at_index : Place → Option ℕ → Span → Does Place
+abbrev pub at_index : Place → Option ℕ → Span → Does Place
 at_index p None span = traps trap.Index span
 at_index p (Some k) span = do
   count
@@ -147,26 +142,27 @@ holds_all (node ∷ more) = do
   changes (λ env. hold node env)
   holds_all more
 
-abbrev at_root : Root → Does Place
+abbrev pub at_root : Root → Does Place
 at_root root env s = Gives (record { opened = InEntry root []; value = value_of root env }) env s
 
 -- what a ramp yields, with its slide, once the places that it was lent are open
-abbrev yielded : PlainType → Openeds → (temporaries : List ℕ) → Came → Does Place
+abbrev pub yielded : PlainType → Openeds → (temporaries : List ℕ) → Came → Does Place
 yielded type places temporaries (Returned v parameters t) env s = impossible env t
 yielded type places temporaries (Yielded v t slide) env s =
     Gives (record { opened = InYielded type v slide places temporaries []; value = v }) env t
 yielded type places temporaries (Halted h t) env s = Stops h t
 
-abbrev ramps : Later → Sig → PlainType → (temporaries : List ℕ) → Places → Does Place
+abbrev pub ramps : Later → Sig → PlainType → (temporaries : List ℕ) → Places → Does Place
 ramps later sig type temporaries places = do
   holds_all temporaries
-  came ← runs later sig places.values
+  turn
+  came ← enters later sig places.values
   yielded type places.opened temporaries came
 
-abbrev also_open : Use → Place → Val → Places → Places
+abbrev pub also_open : Use → Place → Val → Places → Places
 also_open used p v more = record { opened = AlsoOpen used p.opened more.opened; values = v ∷ more.values }
 
-abbrev not_open : Val → Places → Places
+abbrev pub not_open : Val → Places → Places
 not_open v more = record { opened = NotOpen more.opened; values = v ∷ more.values }
 
 -- A place is opened from its root outwards: an index is checked, and a subscript step opens its arguments and runs the ramp.
@@ -213,14 +209,15 @@ with_open later counted arguments body = do
   all_close later places.opened worked.left
   give worked.given
 
-abbrev came_back : Came → Does Worked
+abbrev pub came_back : Came → Does Worked
 came_back (Returned v parameters t) env s = Gives (record { given = v; left = parameters }) env t
 came_back (Yielded v t slide) env s = impossible env t
 came_back (Halted h t) env s = Stops h t
 
-abbrev body_runs : Later → Sig → List Val → Does Worked
+abbrev pub body_runs : Later → Sig → List Val → Does Worked
 body_runs later sig values = do
-  came ← runs later sig values
+  turn
+  came ← enters later sig values
   came_back came
 
 -- a call of a function, a method, or a variant of a subscript that yields nothing
@@ -231,14 +228,14 @@ calls later sig arguments = with_open later true arguments (body_runs later sig)
 abbrev pub gives_only : Val → (values : List Val) → Does Worked
 gives_only v values = give (record { given = v; left = values })
 
-abbrev read_value : List Val → Does Worked
+abbrev pub read_value : List Val → Does Worked
 read_value values = gives_only (first values) values
 
 -- A place is opened, its value is read, and it closes.
 abbrev pub reads : Later → Located → Does Val
 reads later place = with_open later false (Lent U.Read place NoArgument) read_value
 
-abbrev moved_value : List Val → Does Worked
+abbrev pub moved_value : List Val → Does Worked
 moved_value values = give (record { given = first values; left = Unset ∷ [] })
 
 -- A place gives its value, and is unset then.

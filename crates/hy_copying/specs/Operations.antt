@@ -30,16 +30,16 @@ use Rattle.hy_copying.specs.Opening.{Worked, gives_only}
 -- ARITHMETIC
 
 -- a value, or the trap at this span
-abbrev calculated : Span → Option (Result Val TrapKind) → Does Val
+abbrev pub calculated : Span → Option (Result Val TrapKind) → Does Val
 calculated span None = impossible
 calculated span (Some (Ok v)) = give v
 calculated span (Some (Err kind)) = traps kind span
 
-abbrev decided : Option Bool → Does Val
+abbrev pub decided : Option Bool → Does Val
 decided None = impossible
 decided (Some b) = give (Truth b)
 
-abbrev operation_of : Arithmetic → Operation
+abbrev pub operation_of : Arithmetic → Operation
 operation_of arithmetic.Add = operation.Add
 operation_of arithmetic.Subtract = operation.Sub
 operation_of arithmetic.Multiply = operation.Mul
@@ -50,7 +50,7 @@ operation_of arithmetic.Remainder = operation.Rem
 abbrev pub computes : Arithmetic → Span → Val → Val → Does Val
 computes a span v w = calculated span (O.operated (operation_of a) v w)
 
-abbrev negation : Option Bool → Option Bool
+abbrev pub negation : Option Bool → Option Bool
 negation None = None
 negation (Some b) = Some (not b)
 
@@ -79,10 +79,10 @@ converts other span v = impossible
 
 -- PRINT, READ AND PRECONDITION
 
-abbrev writes : List ℕ → Does Val
+abbrev pub writes : List ℕ → Does Val
 writes piece env s = Gives unit_value env (record s { output = s.output ++ piece })
 
-abbrev prints_line : Option (List ℕ) → Does Val
+abbrev pub prints_line : Option (List ℕ) → Does Val
 prints_line None = impossible
 prints_line (Some piece) = do
   happens (Prints piece)
@@ -92,16 +92,16 @@ prints_line (Some piece) = do
 abbrev pub prints : Val → Does Val
 prints v = prints_line (line_of v)
 
-abbrev with_input : List ℕ → State → State
+abbrev pub with_input : List ℕ → State → State
 with_input bytes s = record s { input = bytes }
 
 -- a line that is no number is taken all the same
-abbrev got : Got → Span → Does Val
+abbrev pub got : Got → Span → Does Val
 got (L.Gives n left) span env s = Gives (Number integer.Int n) env (with_input left s)
 got (L.Fails left) span env s = Stops (Ends (end.Trap trap.Input span)) (with_input left s)
 got L.Wants span env s = Stops (Ends end.Asks) s
 
-abbrev takes_line : Span → Does Val
+abbrev pub takes_line : Span → Does Val
 takes_line span env s = got (read_line s.cut s.input) span env s
 
 -- `read()` at this span
@@ -125,7 +125,7 @@ abbrev pub removes_last : Span → Vals → Does Worked
 removes_last span No = traps trap.Empty span
 removes_last span (And v vs) = let p = popped v vs in give (record { given = p.last; left = Array p.rest ∷ [] })
 
-abbrev swapped : ℕ → ℕ → Vals → Val
+abbrev pub swapped : ℕ → ℕ → Vals → Val
 swapped i j vs = Array (with_nth i (nth j vs) (with_nth j (nth i vs) vs))
 
 -- the first of some spans, or this one
@@ -133,20 +133,20 @@ abbrev pub span_or : List Span → Span → Span
 span_or [] span = span
 span_or (one ∷ more) span = one
 
-abbrev spans_after : List Span → List Span
+abbrev pub spans_after : List Span → List Span
 spans_after [] = []
 spans_after (one ∷ more) = more
 
 -- the first index outside the array traps, at its expression
-abbrev swaps : (first second : Span) → Option ℕ → Option ℕ → Vals → List Val → Does Worked
+abbrev pub swaps : (first second : Span) → Option ℕ → Option ℕ → Vals → List Val → Does Worked
 swaps first second None j vs indices = traps trap.Index first
 swaps first second (Some i) None vs indices = traps trap.Index second
 swaps first second (Some i) (Some j) vs indices = give (record { given = unit_value; left = swapped i j vs ∷ indices })
 
-abbrev place_in : Vals → Val → Option ℕ
+abbrev pub place_in : Vals → Val → Option ℕ
 place_in vs index = index_in (many vs) (integer_in index)
 
-abbrev swaps_at : Span → List Span → Vals → List Val → Does Worked
+abbrev pub swaps_at : Span → List Span → Vals → List Val → Does Worked
 swaps_at span spans vs indices =
     swaps (span_or spans span) (span_or (spans_after spans) span) (place_in vs (first indices)) (place_in vs (first (rest indices))) vs indices
 

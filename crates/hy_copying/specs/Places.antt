@@ -52,7 +52,7 @@ mutual
 
 -- WHAT A PLACE LENDS
 
-abbrev local_in : Root → List ℕ
+abbrev pub local_in : Root → List ℕ
 local_in (Local node) = node ∷ []
 local_in Itself = []
 local_in (Temporary node) = []
@@ -71,7 +71,7 @@ abbrev mutual
   all_lend (Moved v more) = all_lend more
   all_lend (Lent used place more) = lends place ++ all_lend more
 
-abbrev temporary_in : Root → List ℕ
+abbrev pub temporary_in : Root → List ℕ
 temporary_in (Local node) = []
 temporary_in Itself = []
 temporary_in (Temporary node) = node ∷ []
@@ -103,35 +103,35 @@ inner s (InYielded type yielded slide places temporaries path) = InYielded type 
 -- A VALUE PUT AT A PATH
 -- Where a step stands on an unset place, that is first made the product or tuple of the type there, with unset parts.
 
-abbrev field_type : Option Field → PlainType
+abbrev pub field_type : Option Field → PlainType
 field_type None = unit
 field_type (Some field) = field.type
 
-abbrev inner_type : Source → Selector → PlainType → PlainType
+abbrev pub inner_type : Source → Selector → PlainType → PlainType
 inner_type source (PartAt k) (Y.Tuple parts) = unwrap_or (part_at k parts) unit
 inner_type source (PartAt k) (Y.Product d) = field_type (slice_get (fields_of source (Y.Product d)) k)
 inner_type source (ElementAt k) (Y.Array element) = element
 inner_type source s type = unit
 
-abbrev type_there : Source → PlainType → Path → PlainType
+abbrev pub type_there : Source → PlainType → Path → PlainType
 type_there source type [] = type
 type_there source type (s ∷ path) = type_there source (inner_type source s type) path
 
-abbrev unset_parts : PlainTypes → Vals
+abbrev pub unset_parts : PlainTypes → Vals
 unset_parts Y.End = No
 unset_parts (Y.More first rest) = And Unset (unset_parts rest)
 
-abbrev in_parts : Source → PlainType → Val
+abbrev pub in_parts : Source → PlainType → Val
 in_parts source (Y.Tuple parts) = Tuple (unset_parts parts)
 in_parts source (Y.Product d) = Product d (blanks (fields_of source (Y.Product d)))
 in_parts source type = Unset
 
 -- the value at this path of an entry of this type
-abbrev parted : Source → PlainType → (before : Path) → Val → Val
+abbrev pub parted : Source → PlainType → (before : Path) → Val → Val
 parted source type before Unset = in_parts source (type_there source type before)
 parted source type before v = v
 
-abbrev put_after : Source → PlainType → (before path : Path) → (new old : Val) → Val
+abbrev pub put_after : Source → PlainType → (before path : Path) → (new old : Val) → Val
 put_after source type before [] new old = new
 put_after source type before (s ∷ path) new old =
     let whole = parted source type before old in
@@ -164,7 +164,7 @@ pub record Env : Type 0 where
   pub locals : List Entry
   pub temporaries : List Entry
 
-abbrev value_among : Root → List Entry → Val
+abbrev pub value_among : Root → List Entry → Val
 value_among root [] = Unset
 value_among root (e ∷ more) = cond (same_root e.root root) e.value (value_among root more)
 
@@ -174,22 +174,22 @@ value_of (Local node) env = value_among (Local node) env.locals
 value_of Itself env = value_among Itself env.locals
 value_of (Temporary node) env = value_among (Temporary node) env.temporaries
 
-abbrev changed_if : Bool → (Entry → Entry) → Entry → (more changed : List Entry) → List Entry
+abbrev pub changed_if : Bool → (Entry → Entry) → Entry → (more changed : List Entry) → List Entry
 changed_if true f e more changed = f e ∷ more
 changed_if false f e more changed = e ∷ changed
 
 -- the newest entry with this root is changed
-abbrev changed : (Entry → Entry) → Root → List Entry → List Entry
+abbrev pub changed : (Entry → Entry) → Root → List Entry → List Entry
 changed f root [] = []
 changed f root (e ∷ more) = changed_if (same_root e.root root) f e more (changed f root more)
 
-abbrev with_locals : Env → List Entry → Env
+abbrev pub with_locals : Env → List Entry → Env
 with_locals env locals = record env { locals = locals }
 
-abbrev with_temporaries : Env → List Entry → Env
+abbrev pub with_temporaries : Env → List Entry → Env
 with_temporaries env temporaries = record env { temporaries = temporaries }
 
-abbrev with_changed : (Entry → Entry) → Root → Env → Env
+abbrev pub with_changed : (Entry → Entry) → Root → Env → Env
 with_changed f (Local node) env = with_locals env (changed f (Local node) env.locals)
 with_changed f Itself env = with_locals env (changed f Itself env.locals)
 with_changed f (Temporary node) env = with_temporaries env (changed f (Temporary node) env.temporaries)
@@ -202,7 +202,7 @@ put_in source root path new env = with_changed (λ e. record e { value = put_at 
 abbrev pub hold : (temporary : ℕ) → Env → Env
 hold node env = with_changed (λ e. record e { standing = Held }) (Temporary node) env
 
-abbrev without_among : Root → List Entry → List Entry
+abbrev pub without_among : Root → List Entry → List Entry
 without_among root [] = []
 without_among root (e ∷ more) = cond (same_root e.root root) more (e ∷ without_among root more)
 

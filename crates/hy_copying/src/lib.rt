@@ -2,11 +2,16 @@
 //! were copied. `docs/COPYING.md` tells it in words. No code is proved against these definitions yet.
 #![tactic(auto)]
 
-ghost use Rattle.hy_copying.specs.Laws.{NothingIsDoneWithoutATurn, CopiesCostTurns, ReadsChangeNothing, MovesUnset, LentForChange};
+ghost use Rattle.hy_copying.specs.Laws.{NothingIsDoneWithoutATurn, SpentRunsTookAllTurns, CopiesCostTurns, ReadsChangeNothing, MovesUnset, LentForChange};
 
 /// A run with no turns is spent, and has done nothing.
 pub fn no_turn()
     ensures { NothingIsDoneWithoutATurn }
+{}
+
+/// A run that is spent has taken all turns that it may take.
+pub fn spent_runs_took_all_turns()
+    ensures { SpentRunsTookAllTurns }
 {}
 
 /// A copy takes a turn and opens a place for each array and each element of one, and does nothing else.
