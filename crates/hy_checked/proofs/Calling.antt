@@ -32,7 +32,8 @@ use Rattle.hy_checked.specs.declared.calls.Start.{Start}
 use Rattle.hy_checked.specs.declared.machine.Machine.{Machine}
 use Rattle.hy_checked.specs.declared.machine.Waiting.{Waiting}
 use Rattle.hy_store.specs.Executes.{MayRunOut}
-use Rattle.hy_checked.specs.Executes.{MachineExecutes, GoesOn, IsUnmoved, KeepsOutside}
+use Rattle.hy_checked.specs.Executes.{MachineExecutes, GoesOn, IsUnmoved}
+use Rattle.hy_runs.specs.Progress.{KeepsOutside}
 use Rattle.hy_checked.specs.Simulates.{AreCallers, AreHanded, AreSuspended, AreSliding, HasCaller, IsAt, IsKeptAs, IsPausedAs, IsRunningAs, Simulates, WaitsAs}
 use Rattle.hy_checked.specs.Starting.{CanStart}
 use Rattle.hy_checked.proofs.Acting.{KeepsOthers, callers_stay, kept_as, live_so, none_in, own_apart, paused_stays, runs_on, started_is, started_keeps}

@@ -1,30 +1,29 @@
 -- A run goes on by a step of the machine.
-use Rattle.std.proofs.Common.{◌≡◌, ◌+◌, ℕ, Bool, false, List, [], ◌++◌, take, Option, Some, None, Result, Ok, Err, IsErrAnd, refl, sym, ap}
+use Rattle.std.proofs.Common.{◌≡◌, ℕ, Bool, false, take, Some, None, Result, Ok, Err, IsErrAnd, refl, sym, ap}
 use Rattle.std.proofs.Common.{subst, ◌∙◌}
-use Rattle.std.proofs.lemmas.List.{append-nil}
 use Rattle.hy_base.specs.declared.run.Counts.{Counts}
 use Rattle.hy_base.specs.declared.run.End.{End}
 use Rattle.hy_base.specs.declared.run.RunCause.{RunCause}
 use Rattle.hy_base.specs.declared.run.RunCause.TheVariants as cause
-use Rattle.hy_base.specs.Outside.{StillTells}
 use Rattle.hy_object.specs.declared.instr.Instr.{Instr}
 use Rattle.hy_object.specs.declared.object.Fun.{Fun}
 use Rattle.hy_object.specs.declared.object.Object.{Object}
 use Rattle.hy_object.specs.declared.stuck.Kind.{Kind}
 use Rattle.hy_object.specs.declared.stuck.Kind.TheVariants as kind
 use Rattle.hy_object.specs.Checks.{ends, stuck}
-use Rattle.hy_object.specs.Runs.{after, next_piece, with_more}
+use Rattle.hy_object.specs.Runs.{next_piece, with_more}
 use Rattle.hy_object.specs.States.{State, Stuck, nth}
-use Rattle.hy_object.specs.Steps.{begin, does, does_some, step, step_from}
-use Rattle.hy_object.proofs.OneEnd.{steps_add}
-use Rattle.hy_runs.specs.Runs.{Told, Appends, Faults}
+use Rattle.hy_object.specs.Steps.{does, step}
+use Rattle.hy_runs.specs.Runs.{Told, Faults}
 use Rattle.hy_store.specs.declared.halt.Halt.{Halt}
 use Rattle.hy_store.specs.declared.halt.Halt.TheVariants as halt
 use Rattle.hy_checked.specs.declared.machine.Machine.{Machine}
 use Rattle.hy_store.specs.Executes.{InPlace, IsCutBy, MayRunOut, MemoryUse}
-use Rattle.hy_checked.specs.Executes.{MachineExecutes, KeepsOutside, RunsOutOnlyBy}
+use Rattle.hy_checked.specs.Executes.{MachineExecutes, RunsOutOnlyBy}
 use Rattle.hy_checked.specs.Simulates.{IsAt, Simulates}
-use Rattle.hy_checked.specs.Progress.{Comes, ComesToCut, CutsOff, HaltsWith, RunAdvances, Then, RunReaches}
+use Rattle.hy_runs.specs.Progress.{Comes, ComesToCut, CutsOff}
+use Rattle.hy_runs.proofs.Coming.{comes_on, step_is, told_none}
+use Rattle.hy_checked.specs.Progress.{HaltsWith, RunAdvances, Then, RunReaches}
 use Rattle.hy_checked.proofs.Known.{same_fun}
 use Rattle.hy_checked.proofs.Lifting.{told_stuck}
 
@@ -32,30 +31,6 @@ use Rattle.hy_checked.proofs.Lifting.{told_stuck}
 pub is_memory : (memory : MemoryUse) (c : RunCause) → IsCutBy memory c → c ≡ cause.NoMemory
 is_memory InPlace c h = absurd h
 is_memory MayRunOut c h = h
-
--- one step more
-pub comes_on : (object : Object) (n : ℕ) (first next : Told) (s t : State) → Comes object n first next s → step object s ≡ t → KeepsOutside s t
-    → Comes object n first next t
-comes_on object n first next s t c is keeps = record {
-  answered = c.answered;
-  steps = c.steps + 1;
-  is = ap (λ (cut : Bool). after object c.answered cut n (c.steps + 1)) keeps.cut ∙ steps_add object c.steps 1 (begin object c.answered s.cut n)
-      ∙ ap (step object) c.is ∙ is;
-  all = keeps.input ∙ c.all;
-  taken = c.taken;
-  used_up = λ h. c.used_up (sym keeps.cut ∙ h);
-  output = subst (λ (o : List ℕ). StillTells first.out next.out (Appends o)) (sym keeps.output) c.output;
-}
-
--- the step that an instruction is
-pub step_is : (object : Object) (s : State) (fun : Fun) (found : Option Instr) → s.stop ≡ None → s.now.fun ≡ fun → nth fun.code s.now.place ≡ found
-    → step object s ≡ does_some object s found
-step_is object s fun found going is h = ap (step_from object s) going ∙ ap (does_some object s) (ap (λ (f : Fun). nth f.code s.now.place) is ∙ h)
-
--- nothing more is put out
-pub told_none : (out : Option (List ℕ)) (bytes : List ℕ) → bytes ≡ [] → StillTells out out (Appends bytes)
-told_none None bytes h = tt
-told_none (Some o) bytes h = sym (append-nil o) ∙ ap (λ (xs : List ℕ). o ++ xs) (sym h)
 
 pub cut_out_of_memory : (object : Object) (n : ℕ) (first next : Told) (m : Machine) (s : State) (counts : Counts) → Comes object n first next s
     → Simulates object m s → counts ≡ m.store.counts → ComesToCut object n first next 0 counts

@@ -19,7 +19,8 @@ use Rattle.hy_store.specs.Executes.{Forward, Goes, MayRunOut, MemoryUse, StoreEx
 use Rattle.hy_store.specs.Represents.{Ghosts, Represents}
 use Rattle.hy_checked.specs.declared.machine.Machine.{Machine}
 use Rattle.hy_checked.specs.Instructions.{memory_of}
-use Rattle.hy_checked.specs.Executes.{MachineExecutes, EndsRun, GoesOn, IsUnmoved, KeepsOutside}
+use Rattle.hy_checked.specs.Executes.{MachineExecutes, EndsRun, GoesOn, IsUnmoved}
+use Rattle.hy_runs.specs.Progress.{KeepsOutside}
 use Rattle.hy_checked.specs.Simulates.{AreCallers, AreHanded, AreSuspended, AreSliding, IsRunningAs, Simulates}
 use Rattle.hy_checked.proofs.Known.{same_fun, represents_fun}
 

@@ -22,11 +22,12 @@ use Rattle.hy_store.specs.declared.halt.Halt.TheVariants as halt
 use Rattle.hy_store.specs.Represents.{Ghosts, Represents}
 use Rattle.hy_checked.specs.declared.machine.Machine.{Machine}
 use Rattle.hy_checked.specs.Simulates.{IsAt, Simulates}
-use Rattle.hy_checked.specs.Progress.{Comes, RunAdvances}
-use Rattle.hy_checked.proofs.Coming.{step_is, cut_out_of_memory}
+use Rattle.hy_runs.specs.Progress.{Comes}
+use Rattle.hy_runs.proofs.Coming.{drop_front, step_is}
+use Rattle.hy_checked.specs.Progress.{RunAdvances}
+use Rattle.hy_checked.proofs.Coming.{cut_out_of_memory}
 use Rattle.hy_checked.proofs.Known.{same_fun, represents_fun}
 use Rattle.hy_checked.proofs.Turning.{simulates_at}
-use Rattle.hy_checked.proofs.Whole.{drop_front}
 
 -- the outside is not looked at
 pub simulates_outside : (object : Object) (m : Machine) (s : State) (input : List ℕ) (cut : Bool) (output : List ℕ) → Simulates object m s

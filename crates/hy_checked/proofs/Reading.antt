@@ -1,7 +1,7 @@
 -- Lines of input.
 use Rattle.std.proofs.Common.{◌≡◌, ◌+◌, not, ℕ, Bool, true, false, List, [], ◌∷◌, ◌++◌, ℤ, Option, Some, None, Result, Ok, Err, refl}
 use Rattle.std.proofs.Common.{sym, ap, subst, ◌∙◌}
-use Rattle.std.proofs.lemmas.List.{append-nil, append_assoc}
+use Rattle.std.proofs.lemmas.List.{append-nil}
 use Rattle.hy_base.specs.declared.run.End.TheVariants as end
 use Rattle.hy_base.specs.declared.run.RunCause.TheVariants as cause
 use Rattle.hy_base.specs.declared.run.TrapKind.TheVariants as trap
@@ -22,7 +22,7 @@ use Rattle.hy_object.specs.Words.{read, reads}
 use Rattle.hy_object.proofs.CutOff.{cut_runs_agree}
 use Rattle.hy_object.proofs.OneEnd.{steps_add}
 use Rattle.hy_runs.specs.Lines.{IsRead, Reader}
-use Rattle.hy_runs.specs.Runs.{AllTaken, Appends, Told, told}
+use Rattle.hy_runs.specs.Runs.{Appends, Told, told}
 use Rattle.hy_store.specs.declared.halt.Halt.{Halt}
 use Rattle.hy_store.specs.declared.halt.Halt.TheVariants as halt
 use Rattle.hy_store.specs.declared.reach.Reach.{Reach}
@@ -34,46 +34,12 @@ use Rattle.hy_store.proofs.Storing.{writes_word}
 use Rattle.hy_checked.specs.declared.machine.Machine.{Machine}
 use Rattle.hy_checked.specs.Executes.{GoesOn}
 use Rattle.hy_checked.specs.Simulates.{IsAt, Simulates}
-use Rattle.hy_checked.specs.Progress.{Comes, ComesToAsk, ComesToEnd, IsUsedUp, RunAdvances, RunReaches}
-use Rattle.hy_checked.proofs.Coming.{step_is}
+use Rattle.hy_runs.specs.Progress.{Comes, ComesToAsk, ComesToEnd}
+use Rattle.hy_runs.proofs.Coming.{none_is_left, none_some, not_false, step_is, took_on}
+use Rattle.hy_checked.specs.Progress.{RunAdvances, RunReaches}
 use Rattle.hy_checked.proofs.Known.{same_fun, represents_fun}
 use Rattle.hy_checked.proofs.Lifting.{goes_on}
 use Rattle.hy_checked.proofs.Printing.{simulates_outside}
-use Rattle.hy_checked.proofs.Whole.{none_some}
-
--- THE INPUT
-
--- more is taken
-took_on : (old mid new : Option Tape) (xs ys : List ℕ) → StillTells old mid (AllTaken xs) → StillTells mid new (AllTaken ys)
-    → StillTells old new (AllTaken (xs ++ ys))
-took_on old mid None xs ys a b = tt
-took_on old None (Some new) xs ys a b = absurd b
-took_on None (Some mid) (Some new) xs ys a b = absurd a
-took_on (Some old) (Some mid) (Some new) xs ys a b = record {
-  left = a.left ∙ ap (λ (l : List ℕ). xs ++ l) b.left ∙ sym (append_assoc xs ys new.left);
-  taken = b.taken ∙ ap (λ (l : List ℕ). l ++ ys) a.taken ∙ append_assoc old.taken xs ys;
-}
-
--- it was used up, and nothing was taken
-still_used_up : (mid new : Option Tape) (taken : List ℕ) → taken ≡ [] → IsUsedUp mid → StillTells mid new (AllTaken taken) → IsUsedUp new
-still_used_up mid None taken none used h = tt
-still_used_up None (Some new) taken none used h = absurd h
-still_used_up (Some mid) (Some new) taken none used h = ap (λ (xs : List ℕ). xs ++ new.left) (sym none) ∙ sym h.left ∙ used
-
--- its end was met
-used_up_now : (mid new : Option Tape) → StillTells mid new (λ old new. new.left ≡ []) → IsUsedUp new
-used_up_now mid None h = tt
-used_up_now None (Some new) h = absurd h
-used_up_now (Some mid) (Some new) h = h
-
-module _ (mid new : Option Tape) (before later : Reader) (result : Result (Option ℤ) Failed) (line : IsRead mid new before later result) where
-  none_is_left : (had has : Bool) → before.ended ≡ had → later.ended ≡ has → (had ≡ true → IsUsedUp mid) → has ≡ true → IsUsedUp new
-  none_is_left true has b a used h = still_used_up mid new line.taken (line.past_end b).0 (used refl) line.told
-  none_is_left false has b a used h = used_up_now mid new (line.at_end b (a ∙ h))
-
-not_false : (b : Bool) → not b ≡ false → b ≡ true
-not_false true h = refl
-not_false false h = sym h
 
 -- THE CHECKS
 

@@ -35,7 +35,8 @@ use Rattle.hy_checked.specs.declared.machine.Machine.{Machine}
 use Rattle.hy_checked.specs.declared.machine.Waiting.{Waiting}
 use Rattle.hy_checked.specs.Suspended.{IsLastAt, IsNoneFrom}
 use Rattle.hy_store.specs.Executes.{MayRunOut}
-use Rattle.hy_checked.specs.Executes.{MachineExecutes, GoesOn, IsUnmoved, KeepsOutside}
+use Rattle.hy_checked.specs.Executes.{MachineExecutes, GoesOn, IsUnmoved}
+use Rattle.hy_runs.specs.Progress.{KeepsOutside}
 use Rattle.hy_checked.specs.Simulates.{AreHanded, AreSuspended, AreSliding, HasCaller, IsAt, IsKeptAs, IsPausedAs, IsRunningAs, Simulates, WaitsAs}
 use Rattle.hy_checked.proofs.Acting.{KeepsOthers, callers_stay, changed_is, changed_keeps, changed_many, kept_as, live_so, paused_stays, suspended_apart}
 use Rattle.hy_checked.proofs.Acting.{suspended_stay, to_found}

@@ -10,14 +10,9 @@ use Rattle.hy_object.specs.States.{State}
 use Rattle.hy_store.specs.declared.halt.Halt.{Halt}
 use Rattle.hy_store.specs.declared.halt.Halt.TheVariants as halt
 use Rattle.hy_store.specs.Executes.{IsCutBy, MemoryUse}
+use Rattle.hy_runs.specs.Progress.{KeepsOutside}
 use Rattle.hy_checked.specs.declared.machine.Machine.{Machine}
 use Rattle.hy_checked.specs.Simulates.{Simulates}
-
--- the outside is left alone
-pub record KeepsOutside (s t : State) : Type 0 where
-  pub input : t.input ≡ s.input
-  pub cut : t.cut ≡ s.cut
-  pub output : t.output ≡ s.output
 
 -- the machine goes on as the step does
 pub record GoesOn (object : Object) (old new : Machine) (step : State → State) : Type 0 where

@@ -1,6 +1,7 @@
 use Rattle.std.proofs.Common.{◌≡◌, ◌∙◌, ◌-◌, suc, refl, arith}
 use Rattle.hy_runs.specs.Runs.{told}
-use Rattle.hy_checked.proofs.Whole.{keeps_promise, out_of_steps, spent_at_once, walks_first}
+use Rattle.hy_runs.proofs.Coming.{spent_at_once}
+use Rattle.hy_checked.proofs.Whole.{keeps_promise, out_of_steps, walks_first}
 use Rattle.hy_checked.proofs.Settling.{still_walks}
 use Rattle.hy_checked.proofs.runs.exec.Goals as goal
 
