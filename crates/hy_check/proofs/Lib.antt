@@ -1,4 +1,5 @@
 pub mod Knowing
 pub mod Lists
+pub mod NotedTypes
 pub mod PartValues
 pub mod Spans

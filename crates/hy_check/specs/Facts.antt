@@ -20,13 +20,14 @@ has_type node None = []
 has_type node (Some type) = HasType node type ∷ []
 
 -- WRITTEN TYPES
+-- Parts stand first.
 
 abbrev mutual
   pub type_facts : Source → T.TypeExp → List Fact
   type_facts source (T.NamedType name at) = HasType at.node (written_type source (T.NamedType name at)) ∷ []
   type_facts source (T.SelfType token at) = HasType at.node (written_type source (T.SelfType token at)) ∷ []
-  type_facts source (T.ArrayType element at) = HasType at.node (written_type source (T.ArrayType element at)) ∷ type_facts source element
-  type_facts source (T.TupleType parts at) = HasType at.node (written_type source (T.TupleType parts at)) ∷ types_facts source parts
+  type_facts source (T.ArrayType element at) = type_facts source element ++ HasType at.node (written_type source (T.ArrayType element at)) ∷ []
+  type_facts source (T.TupleType parts at) = types_facts source parts ++ HasType at.node (written_type source (T.TupleType parts at)) ∷ []
 
   pub types_facts : Source → T.TypeExps → List Fact
   types_facts source T.NoType = []
@@ -79,7 +80,7 @@ phrase_facts phrase = phrase_types phrase ++ phrase_calls phrase
 -- DECLARATIONS
 
 abbrev pub param_facts : Source → T.Param → List Fact
-param_facts source p = HasType p.at.node (written_type source p.written) ∷ type_facts source p.written
+param_facts source p = type_facts source p.written ++ HasType p.at.node (written_type source p.written) ∷ []
 
 -- the new value of a `set` variant has the type of what the subscript yields
 abbrev pub variant_facts : Source → T.Callable → T.Variant → List Fact

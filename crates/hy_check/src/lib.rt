@@ -2,7 +2,9 @@
 #![tactic(auto)]
 
 mod checker;
+mod declared;
 mod meet;
+mod noting;
 mod parts;
 pub mod returns;
 mod unfit;
