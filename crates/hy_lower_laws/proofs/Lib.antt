@@ -2,3 +2,4 @@ pub mod Lengths
 pub mod Stands
 pub mod OwnWords
 pub mod Simulates
+pub mod WordSteps
