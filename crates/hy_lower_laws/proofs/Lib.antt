@@ -3,3 +3,4 @@ pub mod Stands
 pub mod OwnWords
 pub mod Simulates
 pub mod WordSteps
+pub mod Scalars
