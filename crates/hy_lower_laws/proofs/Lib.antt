@@ -4,3 +4,4 @@ pub mod OwnWords
 pub mod Simulates
 pub mod WordSteps
 pub mod Scalars
+pub mod Calculations

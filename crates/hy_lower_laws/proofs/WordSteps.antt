@@ -61,13 +61,13 @@ shifts_one cells frame to from n =
     }
 
 module _ (o : Object) (y : Body) (is : IsBody y) (c : Control) (s : memory.Cells) (pc : ℕ) (x : State) (k : Linked y c s x) where
-  abbrev HasOwn : ℕ → Type 0
+  abbrev pub HasOwn : ℕ → Type 0
   HasOwn w = w + 1 ≤ y.object.words
 
-  owned : (w : ℕ) → HasOwn w → IsOwn (mach c pc x) w
+  pub owned : (w : ℕ) → HasOwn w → IsOwn (mach c pc x) w
   owned w l = subst (λ f. w + 1 ≤ f.words) (sym k.object) l
 
-  one : (n : State) (i : Instr) → nth y.object.code pc ≡ Some i → does o (mach c pc x) i ≡ n → Leads o (mach c pc x) n
+  pub one : (n : State) (i : Instr) → nth y.object.code pc ≡ Some i → does o (mach c pc x) i ≡ n → Leads o (mach c pc x) n
   one n i h d = leads_one o (mach c pc x) n i k.stop (ap (λ f. nth f.code pc) k.object ∙ h) d
 
   -- the machine goes on with other cells

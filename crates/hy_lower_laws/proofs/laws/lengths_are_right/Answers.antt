@@ -1,5 +1,5 @@
 use Rattle.hy_lower_laws.proofs.Lengths.{one_is, all_are}
-use Rattle.hy_lower_laws.proofs.Scalars.{stores}
+use Rattle.hy_lower_laws.proofs.Calculations.{arithmetic_follows}
 use Rattle.hy_lower_laws.proofs.laws.lengths_are_right.Goals as goal
 
 pub returns : goal.returns
