@@ -14,7 +14,7 @@ use Rattle.hy_core.specs.Memory.{lending}
 use Rattle.hy_core.specs.Memory as memory
 use Rattle.hy_core.specs.Operators.{as_value, operated, negated, ordered, equal}
 use Rattle.hy_core.specs.Runs.{Interaction, interpret, Return}
-use Rattle.hy_core.specs.Control.{Control, Setting, read, write, with_some, trapped, stop, Ends}
+use Rattle.hy_core.specs.Control.{Control, Setting, read, write, with_some, trapped, stop, Ends, Form, Numbers, Flags, form}
 use Rattle.hy_core.specs.Control as core
 use Rattle.hy_core.specs.Statements.{arithmetic, compares, give, store_to}
 use Rattle.hy_object.specs.declared.instr.Instr.{Instr}
@@ -47,19 +47,19 @@ fits_gives false n = fails trap.Overflow refl refl
 module _ (f : ℤ → ℤ → ℤ) (op : Val → Val → Option (Result Val TrapKind))
     (on_numbers : (m n : ℤ) → op (Number Int m) (Number Int n) ≡ Some (as_value Int (base.fitting Int (f m n))))
     (first_flag : (b : Bool) (w : Val) → op (Truth b) w ≡ None) (second_flag : (m : ℤ) (b : Bool) → op (Number Int m) (Truth b) ≡ None) where
-  pub tested_gives : (v w : Val) (m n : ℤ) → Scalar v m → Scalar w n → Gives (op v w) (fitting (f m n))
-  tested_gives v w m n (number e) (number d) =
+  pub tested_gives : (x z : Form) (v w : Val) (m n : ℤ) → Scalar x v m → Scalar z w n → Gives (op v w) (fitting (f m n))
+  tested_gives x z v w m n (number _ e) (number _ d) =
       subst (λ r. Gives r (fitting (f m n))) (sym (ap (λ v. op v w) e ∙ ap (op (Number Int m)) d ∙ on_numbers m n)) (fits_gives (base.is_in Int (f m n)) (f m n))
-  tested_gives v w m n (flag b e _) q = none (ap (λ v. op v w) e ∙ first_flag b w)
-  tested_gives v w m n (number e) (flag b d _) = none (ap (λ v. op v w) e ∙ ap (op (Number Int m)) d ∙ second_flag m b)
+  tested_gives x z v w m n (flag b _ e _) q = none (ap (λ v. op v w) e ∙ first_flag b w)
+  tested_gives x z v w m n (number _ e) (flag b _ d _) = none (ap (λ v. op v w) e ∙ ap (op (Number Int m)) d ∙ second_flag m b)
 
-pub add_gives : (v w : Val) (m n : ℤ) → Scalar v m → Scalar w n → Gives (operated operation.Add v w) (fitting (m +ℤ n))
+pub add_gives : (x z : Form) (v w : Val) (m n : ℤ) → Scalar x v m → Scalar z w n → Gives (operated operation.Add v w) (fitting (m +ℤ n))
 add_gives = tested_gives (λ m n. m +ℤ n) (operated operation.Add) (λ m n. refl) (λ b w. refl) (λ m b. refl)
 
-pub sub_gives : (v w : Val) (m n : ℤ) → Scalar v m → Scalar w n → Gives (operated operation.Sub v w) (fitting (m -ℤ n))
+pub sub_gives : (x z : Form) (v w : Val) (m n : ℤ) → Scalar x v m → Scalar z w n → Gives (operated operation.Sub v w) (fitting (m -ℤ n))
 sub_gives = tested_gives (λ m n. m -ℤ n) (operated operation.Sub) (λ m n. refl) (λ b w. refl) (λ m b. refl)
 
-pub mul_gives : (v w : Val) (m n : ℤ) → Scalar v m → Scalar w n → Gives (operated operation.Mul v w) (fitting (m *ℤ n))
+pub mul_gives : (x z : Form) (v w : Val) (m n : ℤ) → Scalar x v m → Scalar z w n → Gives (operated operation.Mul v w) (fitting (m *ℤ n))
 mul_gives = tested_gives (λ m n. m *ℤ n) (operated operation.Mul) (λ m n. refl) (λ b w. refl) (λ m b. refl)
 
 -- The spans of the object are those of the core.
@@ -92,12 +92,12 @@ two_operands scratch a b to i = instr.Copy (own scratch) (own a) 1 ∷ instr.Cop
 module _ (o : Object) (y : Body) (is_body : IsBody y) (p : Setting) (same : SameSpans o p) where
   -- after the operands: the instruction, a trap or the store
   calculated : (c : Control) (s : memory.Cells) (pc : ℕ) (x : State) (k : Linked y c s x) (i : Instr) (span : ℕ) (f : ℤ → ℤ → Computed) (m n : ℤ)
-      (r : Option (Result Val TrapKind)) (l w : ℕ) → IsWord y.frame l w → Gives r (f m n)
+      (r : Option (Result Val TrapKind)) (l w : ℕ) (word : IsWord y.frame l w) → form y.frame.types word.type ≡ Numbers Int → Gives r (f m n)
       → ((z : State) → does o z i ≡ calculate o z y.frame.scratch y.frame.scratch (suc y.frame.scratch) span f)
       → x.cells x.now.frame y.frame.scratch ≡ Word m → x.cells x.now.frame (suc y.frame.scratch) ≡ Word n
       → HasAt y.object.code pc (i ∷ instr.Move (own w) (own y.frame.scratch) 1 ∷ []) → At y.frame y.object.code (suc (suc pc)) c.now.work
       → Follows o y (interpret lending (with_some c r (λ r. give p c (Some (whole_local l)) span r)) s) (mach c pc x)
-  calculated c s pc x k i span f m n r l w word given act d e has at = by given
+  calculated c s pc x k i span f m n r l w word kind given act d e has at = by given
     where
       fits : y.frame.scratch + 2 ≤ y.object.words
       fits = is_body.scratch
@@ -112,7 +112,7 @@ module _ (o : Object) (y : Body) (is_body : IsBody y) (p : Setting) (same : Same
           let k' = scratch_put o y is_body c s pc x k t.cells y.frame.scratch (Word j) (omega arith) refl t.puts in
           subst (λ r. Follows o y (interpret lending (with_some c r (λ r. give p c (Some (whole_local l)) span r)) s) (mach c pc x)) (sym q)
           (leads_follows o y _ (mach c pc x) (mach c (suc pc) (record x { cells = t.cells })) t.leads
-          (stores o y is_body c s (suc pc) (record x { cells = t.cells }) k' p l w word (Number Int j) j (number refl) t.puts.here has.1.0 at))
+          (stores o y is_body c s (suc pc) (record x { cells = t.cells }) k' p l w word (Number Int j) j (number kind refl) t.puts.here has.1.0 at))
       by (fails why q g) =
           subst (λ r. Follows o y (interpret lending (with_some c r (λ r. give p c (Some (whole_local l)) span r)) s) (mach c pc x)) (sym q)
           (trap_follows o y c s pc x k p same why span (mach c pc x)
@@ -122,12 +122,12 @@ module _ (o : Object) (y : Body) (is_body : IsBody y) (p : Setting) (same : Same
           (wrong core.Stuck refl stuck)
 
   pub arithmetic_follows : (c : Control) (s : memory.Cells) (pc : ℕ) (x : State) (k : Linked y c s x) (i : Instr) (span : ℕ) (f : ℤ → ℤ → Computed)
-      (op : Val → Val → Option (Result Val TrapKind)) (a b l wa wb wl : ℕ) → IsWord y.frame a wa → IsWord y.frame b wb → IsWord y.frame l wl
-      → ((v w : Val) (m n : ℤ) → Scalar v m → Scalar w n → Gives (op v w) (f m n))
+      (op : Val → Val → Option (Result Val TrapKind)) (a b l wa wb wl : ℕ) → IsWord y.frame a wa → IsWord y.frame b wb → (word : IsWord y.frame l wl)
+      → form y.frame.types word.type ≡ Numbers Int → ((x z : Form) (v w : Val) (m n : ℤ) → Scalar x v m → Scalar z w n → Gives (op v w) (f m n))
       → ((z : State) → does o z i ≡ calculate o z y.frame.scratch y.frame.scratch (suc y.frame.scratch) span f)
       → HasAt y.object.code pc (two_operands y.frame.scratch wa wb wl i) → At y.frame y.object.code (suc (suc (suc (suc pc)))) c.now.work
       → Follows o y (interpret lending (arithmetic p c (Some (whole_local l)) (whole_local a ∷ whole_local b ∷ []) (span ∷ []) op) s) (mach c pc x)
-  arithmetic_follows c s pc x k i span f op a b l wa wb wl ia ib il gives act has at =
+  arithmetic_follows c s pc x k i span f op a b l wa wb wl ia ib il kind gives act has at =
       let scratch = y.frame.scratch in
       let fits = is_body.scratch in
       loads o y is_body c s pc x k p a wa scratch ia (omega arith) (omega arith) has.0
@@ -139,4 +139,4 @@ module _ (o : Object) (y : Body) (is_body : IsBody y) (p : Setting) (same : Same
       (λ w n sw t k2.
       let x2 : State = record x { cells = t.cells } in
       let kept : t.cells x.now.frame scratch ≡ Word m = t.puts.there x.now.frame scratch (λ _ q. omega arith) ∙ r.puts.here in
-      calculated c s (suc (suc pc)) x2 k2 i span f m n (op v w) l wl il (gives v w m n sv sw) act kept t.puts.here has.1.1 at))
+      calculated c s (suc (suc pc)) x2 k2 i span f m n (op v w) l wl il kind (gives (form y.frame.types ia.type) (form y.frame.types ib.type) v w m n sv sw) act kept t.puts.here has.1.1 at))

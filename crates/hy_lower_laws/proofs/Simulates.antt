@@ -8,7 +8,7 @@ use Rattle.hy_core.specs.Values.{Val, Number, Truth, Tuple, Product, Array}
 use Rattle.hy_core.specs.Values as val
 use Rattle.hy_core.specs.Memory as memory
 use Rattle.hy_core.specs.Runs as runs
-use Rattle.hy_core.specs.Control.{Control, Halt, Ends, NotSet, NotOpened, key, Work}
+use Rattle.hy_core.specs.Control.{Control, Halt, Ends, NotSet, NotOpened, key, Work, Form, Numbers, Flags, form}
 use Rattle.hy_core.specs.Control as core
 use Rattle.hy_object.specs.declared.instr.Instr.{Instr}
 use Rattle.hy_object.specs.declared.instr.Instr.TheVariants as instr
@@ -59,15 +59,15 @@ mach c pc x = record x {
       record (x.counts) { opened = c.opened };
 }
 
--- what a word holds for a value that takes one
-abbrev pub CellIs : Val → Cell → Type 0
-CellIs val.Unset d = is_name d ≡ false
-CellIs (Number Int n) d = d ≡ Word n
-CellIs (Number (Sized num) n) d = ⊥
-CellIs (Truth b) d = d ≡ Word (truth b)
-CellIs (Tuple vs) d = ⊥
-CellIs (Product e vs) d = ⊥
-CellIs (Array vs) d = ⊥
+-- what a word holds for a value of that form, which takes one word
+abbrev pub CellIs : Form → Val → Cell → Type 0
+CellIs f val.Unset d = is_name d ≡ false
+CellIs f (Number Int n) d = (d ≡ Word n) × (f ≡ Numbers Int)
+CellIs f (Number (Sized num) n) d = ⊥
+CellIs f (Truth b) d = (d ≡ Word (truth b)) × (f ≡ Flags)
+CellIs f (Tuple vs) d = ⊥
+CellIs f (Product e vs) d = ⊥
+CellIs f (Array vs) d = ⊥
 
 -- a local that takes one word, and where it is
 pub record IsWord (b : Frame) (l w : ℕ) : Type 0 where
@@ -95,7 +95,7 @@ Cells = ℕ → ℕ → Cell
 
 -- The words of the locals are their values, and no word is the name of a block.
 pub record Holds (y : Body) (act frame : ℕ) (s : memory.Cells) (cells : Cells) : Type 0 where
-  pub words : (l w : ℕ) → IsWord y.frame l w → CellIs (s.cell (record { act = act; local = l })) (cells frame w)
+  pub words : (l w : ℕ) (word : IsWord y.frame l w) → CellIs (form y.frame.types word.type) (s.cell (record { act = act; local = l })) (cells frame w)
   pub nameless : (block at : ℕ) → is_name (cells block at) ≡ false
 
 pub record Linked (y : Body) (c : Control) (s : memory.Cells) (x : State) : Type 0 where

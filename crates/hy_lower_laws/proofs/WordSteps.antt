@@ -9,7 +9,7 @@ use Rattle.hy_core.specs.Memory.{Key, key_eq, set_at, target_of, lending}
 use Rattle.hy_core.specs.Memory as memory
 use Rattle.hy_core.specs.Runs.{Interaction, Fetch, Perform, interpret}
 use Rattle.hy_core.specs.Runs as runs
-use Rattle.hy_core.specs.Control.{Control, Setting, NotSet, key, read, write, with_some, with_set, local_type}
+use Rattle.hy_core.specs.Control.{Control, Setting, NotSet, key, read, write, with_some, with_set, local_type, form}
 use Rattle.hy_object.specs.declared.instr.Instr.{Instr}
 use Rattle.hy_object.specs.declared.instr.Instr.TheVariants as instr
 use Rattle.hy_object.specs.declared.object.Object.{Object}
@@ -135,6 +135,6 @@ module _ (o : Object) (y : Body) (is : IsBody y) (c : Control) (s : memory.Cells
       → Linked y c s (record x { cells = new })
   scratch_put new w d l e p = linked_with new (record {
     words = λ a u is_word. let b = is.below a u is_word in
-        subst (CellIs (s.cell (key c a))) (sym (p.there x.now.frame u (λ _ q. omega arith))) (k.holds.words a u is_word);
+        subst (CellIs (form y.frame.types is_word.type) (s.cell (key c a))) (sym (p.there x.now.frame u (λ _ q. omega arith))) (k.holds.words a u is_word);
     nameless = nameless_put new w d p e;
   })
