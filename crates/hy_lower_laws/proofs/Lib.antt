@@ -5,3 +5,4 @@ pub mod Simulates
 pub mod WordSteps
 pub mod Scalars
 pub mod Calculations
+pub mod Choices

@@ -91,6 +91,38 @@ module _ (o : Object) (y : Body) (is : IsBody y) (c : Control) (s : memory.Cells
       by (Product a vs) e d = absurd d
       by (Array vs) e d = absurd d
 
+  -- The value of a local is fetched, and copied to a scratch word.
+  pub fetches : (l w to : ℕ) (word : IsWord y.frame l w) → y.frame.scratch ≤ to → to + 1 ≤ y.object.words
+      → nth y.object.code pc ≡ Some (instr.Copy (own to) (own w) 1) → (go : Val → Interaction Control)
+      → Follows o y (interpret lending (go val.Unset) s) (mach c pc x)
+      → ((v : Val) (n : ℤ) → Scalar (form y.frame.types word.type) v n → (r : Writes o y is c s pc x k to (Word n)) → Linked y c s (record x { cells = r.cells })
+      → Follows o y (interpret lending (go v) s) (mach c (suc pc) (record x { cells = r.cells })))
+      → Follows o y (interpret lending (Fetch (memory.whole (key c l)) go) s) (mach c pc x)
+  fetches l w to word le fits has go unset rest = by (s.cell (key c l)) refl (k.holds.words l w word)
+    where
+      after : (v : Val) → s.cell (key c l) ≡ v → Follows o y (interpret lending (go v) s) (mach c pc x)
+          → Follows o y (interpret lending (Fetch (memory.whole (key c l)) go) s) (mach c pc x)
+      after v e f = subst (λ r. Follows o y r (mach c pc x)) (sym (
+          ap (λ o. let z = target_of (key c l) o in interpret lending (go (val.get (z.path ++ []) (s.cell z.key))) s) (k.own (key c l))
+          ∙ ap (λ v. interpret lending (go v) s) e)) f
+
+      goes : (v : Val) (n : ℤ) → Scalar (form y.frame.types word.type) v n → s.cell (key c l) ≡ v → x.cells x.now.frame w ≡ Word n
+          → Follows o y (interpret lending (Fetch (memory.whole (key c l)) go) s) (mach c pc x)
+      goes v n scalar e d =
+          let r = subst (Writes o y is c s pc x k to) d (copy_writes o y is c s pc x k to w fits (in_frame l w word) (ap is_set d) has) in
+          after v e (leads_follows o y (interpret lending (go v) s) (mach c pc x) (mach c (suc pc) (record x { cells = r.cells })) r.leads
+          (rest v n scalar r (scratch_put o y is c s pc x k r.cells to (Word n) le refl r.puts)))
+
+      by : (v : Val) → s.cell (key c l) ≡ v → CellIs (form y.frame.types word.type) v (x.cells x.now.frame w)
+          → Follows o y (interpret lending (Fetch (memory.whole (key c l)) go) s) (mach c pc x)
+      by val.Unset e d = after val.Unset e unset
+      by (Number Int n) e d = goes (Number Int n) n (number d.1 refl) e d.0
+      by (Number (Sized num) n) e d = absurd d
+      by (Truth b) e d = goes (Truth b) (truth b) (flag b d.1 refl refl) e d.0
+      by (Tuple vs) e d = absurd d
+      by (Product a vs) e d = absurd d
+      by (Array vs) e d = absurd d
+
   -- what a store to a whole local does
   write_is : (p : Setting) (l w : ℕ) (word : IsWord y.frame l w) (v : Val) (go : Control → Interaction Control)
       → interpret lending (write p c (whole_local l) v go) s ≡ interpret lending (go c) (record { refers = s.refers; cell = set_at s.cell (key c l) v })
