@@ -115,7 +115,15 @@ works_within Operations.Copy span spans values l = seq (visits_within _ (first v
 
 temporary_within : {d : ℕ} (known : Known) (node : ℕ) (v : Val) → Within Any d (Expressions.becomes_temporary known node v)
 temporary_within known node v =
-    seq (changed_within (λ env. record env { temporaries = record { root = Temporary node; type = type_at known node; value = v; standing = Owned } ∷ env.temporaries })
+    seq (changed_within (λ env. record env {
+      temporaries = record {
+        root = Temporary node;
+        type = type_at known node;
+        value = v;
+        standing =
+            Owned;
+      } ∷ env.temporaries;
+    })
     (λ b env le good. record { locals = good.locals; temporaries = (tt, good.temporaries) })) (λ c a le q. given (Rooted (Temporary node)))
 
 pub placed_within : {d : ℕ} {later : Later} (node : ℕ) (of : Ready) → LaterWithin d later → Within Any d (placed later node of)
@@ -207,11 +215,13 @@ member_within at node before name (Some sig) l = applies_within at node before (
 
 both_within : {d : ℕ} {later : Later} (o : Operator) (span : Span) (left right : Located) → LaterWithin d later
     → Within Any d (Expressions.both later o span left right)
-both_within o span left right l = with_within false (Lent U.Read left (Lent U.Read right NoArgument)) (Expressions.of_two o span) l (λ values. seq (operates_within o span _ _) (λ c v le q. given _))
+both_within o span left right l = with_within false (Lent U.Read left (Lent U.Read right NoArgument)) (Expressions.of_two o span) l
+    (λ values. seq (operates_within o span _ _) (λ c v le q. given _))
 
 one_within : {d : ℕ} {later : Later} (o : UnaryOperator) (span : Span) (operand : Located) → LaterWithin d later
     → Within Any d (Expressions.alone later o span operand)
-one_within o span operand l = with_within false (Lent U.Read operand NoArgument) (Expressions.of_one o span) l (λ values. seq (alone_within o span _) (λ c v le q. given _))
+one_within o span operand l = with_within false (Lent U.Read operand NoArgument) (Expressions.of_one o span) l
+    (λ values. seq (alone_within o span _) (λ c v le q. given _))
 
 right_within : {d : ℕ} {later : Later} (node : ℕ) {right : Does Ready} → LaterWithin d later → Within Any d right
     → Within Any d (Expressions.right_side later node right)
@@ -237,7 +247,8 @@ mutual
   pub ready_within : {d : ℕ} {later : Later} (e : T.Expr) → LaterWithin d later → Within Any d (ready later e)
   ready_within (T.Chain first links at) l = seq (ready_within first l) (λ c left le q. links_within _ left links (later_less le l))
   ready_within (T.Unary o operand at) l =
-      seq (ready_within operand l) (λ c of le q. seq (placed_within _ of (later_less le l)) (λ b place lt r. results_within (one_within o at.span place (later_less (thus lt le) l))))
+      seq (ready_within operand l) (λ c of le q. seq (placed_within _ of (later_less le l))
+      (λ b place lt r. results_within (one_within o at.span place (later_less (thus lt le) l))))
   ready_within (T.Marked operand at) l = ready_within operand l
   ready_within (T.Postfix primary steps at) l = seq (ready_within primary l) (λ c before le q. steps_within _ before steps (later_less le l))
   ready_within (T.Number number at) l = given _
@@ -253,7 +264,8 @@ mutual
   all_within : {d : ℕ} {later : Later} (parts : T.Exprs) → LaterWithin d later → Within Any d (Expressions.all_taken later parts)
   all_within T.NoExpr l = given _
   all_within (T.ThenExpr e more) l =
-      seq (ready_within e l) (λ c of le q. seq (takes_within of (later_less le l)) (λ b v lt r. seq (all_within more (later_less (thus lt le) l)) (λ e vs ll z. given _)))
+      seq (ready_within e l) (λ c of le q. seq (takes_within of (later_less le l)) (λ b v lt r. seq (all_within more (later_less (thus lt le) l))
+      (λ e vs ll z. given _)))
 
   links_within : {d : ℕ} {later : Later} (node : ℕ) (left : Ready) (links : T.Links) → LaterWithin d later
       → Within Any d (Expressions.links_on later node left links)

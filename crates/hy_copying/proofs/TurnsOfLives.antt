@@ -14,7 +14,8 @@ use Rattle.hy_copying.specs.Does.{happens, count, turn, slides}
 use Rattle.hy_copying.specs.Lives
 use Rattle.hy_copying.specs.Lives.{Later, Visit, Copying, Deinitialising, visits, visits_parts, visits_elements, deinitialises, copies, as_statement}
 use Rattle.hy_copying.specs.Lives.{temporaries_die, let_all_go, deinitialises_parts}
-use Rattle.hy_copying.proofs.Turns.{thus, itself, SlidWithin, SlideWithin, CameWithin, StandingWithin, EntriesWithin, EnvWithin, standing_less, entries_less, env_less}
+use Rattle.hy_copying.proofs.Turns.{thus, itself, SlidWithin, SlideWithin, CameWithin}
+use Rattle.hy_copying.proofs.Turns.{StandingWithin, EntriesWithin, EnvWithin, standing_less, entries_less, env_less}
 use Rattle.hy_copying.proofs.Turns.{OutWithin, Within, Any, out_more, seq, less, gives, LaterWithin, later_less}
 
 -- THE END OF A RUN
@@ -38,7 +39,8 @@ pub changed_within : {d : ℕ} (f : Env → Env) → ((b : ℕ) (env : Env) → 
 changed_within f is = record { holds = λ env s le good. (itself s.turns, is s.turns env le good, tt) }
 
 pub declared_within : {d : ℕ} (e : Entry) → ((b : ℕ) → b ≤ d → StandingWithin b e.standing) → Within Any d (declares e)
-declared_within e is = changed_within (λ env. record env { locals = e ∷ env.locals }) (λ b env le good. record { locals = (is b le, good.locals); temporaries = good.temporaries })
+declared_within e is = changed_within (λ env. record env { locals = e ∷ env.locals })
+    (λ b env le good. record { locals = (is b le, good.locals); temporaries = good.temporaries })
 
 -- EVENTS
 

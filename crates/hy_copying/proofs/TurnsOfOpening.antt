@@ -100,7 +100,8 @@ ramps_within : {d : ℕ} {later : Later} (sig : Sig) (type : PlainType) (tempora
     → Within PlaceWithin d (Opening.ramps later sig type temporaries places)
 ramps_within {later = later} sig type temporaries places l os = seq (holds_within temporaries) (λ e w lw z. seq turn_within (λ c a le fewer. record {
   holds = λ env s lt good.
-      projected (later.body (Opening.called later.known.source sig.callee (first places.values)) sig.variant places.values s) type places.opened temporaries env s
+      projected (later.body (Opening.called later.known.source sig.callee (first places.values)) sig.variant places.values s) type places.opened
+      temporaries env s
       (l.body _ sig.variant places.values s (omega (arith, lt, fewer, lw))) (openeds_less places.opened (thus lt (thus le lw)) os) good;
 }))
 
@@ -138,7 +139,8 @@ pub with_within : {d : ℕ} {later : Later} (counted : Bool) (arguments : Argume
     → ((values : List Val) → Within Any d (body values)) → Within Any d (with_open later counted arguments body)
 with_within counted arguments body l is =
     seq (all_open_within counted arguments l) (λ c ps le q. seq (less le (is ps.values))
-    (λ b worked lt r. seq (all_close_within ps.opened worked.left (later_less (thus lt le) l) (openeds_less ps.opened lt q)) (λ e u ll z. gives _ (λ g lg. tt))))
+    (λ b worked lt r. seq (all_close_within ps.opened worked.left (later_less (thus lt le) l) (openeds_less ps.opened lt q)) (λ e u ll z. gives _
+    (λ g lg. tt))))
 
 pub calls_within : {d : ℕ} {later : Later} (sig : Sig) (arguments : Arguments) → LaterWithin d later → Within Any d (calls later sig arguments)
 calls_within {later = later} sig arguments l = with_within true arguments (Opening.body_runs later sig) l (λ values. body_within sig values l)

@@ -28,9 +28,11 @@ use Rattle.hy_copying.specs.Statements.{Course, GoesOn, Returns, Breaks, Continu
 use Rattle.hy_copying.specs.Laws.{SpentRunsTookAllTurns}
 use Rattle.hy_copying.specs.Meaning
 use Rattle.hy_copying.specs.Meaning.{at_most}
-use Rattle.hy_copying.proofs.Turns.{thus, itself, Halts, SlidWithin, CameWithin, StandingWithin, EntriesWithin, EnvWithin, standing_less, entries_less, env_less}
+use Rattle.hy_copying.proofs.Turns.{thus, itself, Halts, SlidWithin, CameWithin}
+use Rattle.hy_copying.proofs.Turns.{StandingWithin, EntriesWithin, EnvWithin, standing_less, entries_less, env_less}
 use Rattle.hy_copying.proofs.Turns.{opened_less, OutWithin, Within, Any, out_more, seq, less, gives, LaterWithin, later_less}
-use Rattle.hy_copying.proofs.TurnsOfLives.{never, nothing_within, chosen, changed_within, declared_within, count_within, turn_within, Fewer, deinitialised_within}
+use Rattle.hy_copying.proofs.TurnsOfLives.{never, nothing_within, chosen, changed_within}
+use Rattle.hy_copying.proofs.TurnsOfLives.{declared_within, count_within, turn_within, Fewer, deinitialised_within}
 use Rattle.hy_copying.proofs.TurnsOfLives.{temporaries_within, statement_within, all_go_within, parts_within}
 use Rattle.hy_copying.proofs.TurnsOfOpening.{holds_within, closes_within, opens_within, with_within, calls_within, PlaceWithin}
 use Rattle.hy_copying.proofs.TurnsOfExpressions.{given, computes_within, placed_within, looked_within, takes_within, ready_within}
@@ -229,7 +231,8 @@ mutual
   all_within : {d : ℕ} {later : Later} (stmts : T.Stmts) (block : ℕ) → LaterWithin d later → Within Any d (Statements.statements later stmts block)
   all_within T.NoStmt block l = given GoesOn
   all_within {later = later} (T.ThenStmt stmt more) block l =
-      seq (whole_within block (λ node. mentioned later.known.source node more) l (executes_within stmt l)) (λ c course le q. further_within course (all_within more block (later_less le l)))
+      seq (whole_within block (λ node. mentioned later.known.source node more) l (executes_within stmt l))
+      (λ c course le q. further_within course (all_within more block (later_less le l)))
 
   pub body_within : {d : ℕ} {later : Later} (block : T.Block) → LaterWithin d later → Within Any d (Statements.block_of later block)
   body_within (T.Braces stmts at) l = block_within _ l (λ n. all_within stmts n l)
@@ -304,7 +307,8 @@ AllEnded b es = EntriesWithin b es
 parameters_within : {d : ℕ} {later : Later} (es : List Entry) → LaterWithin d later → EntriesWithin d es
     → Within AllEnded d (Statements.parameters_end later es)
 parameters_within [] l is = gives [] (λ b le. tt)
-parameters_within (e ∷ older) l is = seq (parameter_within e e.standing l is.0) (λ c ended le q. seq (parameters_within older (later_less le l) (entries_less older le is.1))
+parameters_within (e ∷ older) l is = seq (parameter_within e e.standing l is.0)
+    (λ c ended le q. seq (parameters_within older (later_less le l) (entries_less older le is.1))
     (λ b others lt r. gives (ended ∷ others) (λ f lf. (standing_less ended.standing (thus lf lt) q, entries_less others lf r))))
 
 body_ends_within : {d : ℕ} {later : Later} → LaterWithin d later → Within Any d (Statements.body_ends later)
@@ -356,7 +360,8 @@ at_most_within known zero = record {
 }
 at_most_within known (suc n) = record {
   passes = itself (suc n);
-  body = λ node variant vs s le. callable_within (callable_at node (at_most known n).known.source.decls) variant vs s (later_less (before s.turns n le) (at_most_within known n));
+  body = λ node variant vs s le. callable_within (callable_at node (at_most known n).known.source.decls) variant vs s (later_less (before s.turns n
+      le) (at_most_within known n));
   parts = λ v b le. record {
     holds = λ env s lt good. (parts_within _ (parts_in v) (later_less (before b n le) (at_most_within known n))).holds env s lt good;
   };
