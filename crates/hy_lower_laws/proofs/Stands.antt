@@ -194,21 +194,23 @@ module _ (b : Frame) (code : List Instr) where
       let e : suc pc ≡ pc + 1 = omega arith in
       let parts = subst (λ k. HasAt code k (xs ++ (ys ++ tests))) e r.has.1 in
       let over = has_back code (pc + 1) n xs (ys ++ tests) (all_are b (pc + 1) after start body) parts in
-      let ends : after ≡ pc + (n + m + 3) = omega arith in
-      (after, record {
-        first = pc + 1;
-        before = refl;
-        has_body = has_front code (pc + 1) xs (ys ++ tests) parts;
-        out = r.after;
-        over = r.again;
-        has_head = has_front code start ys tests over;
-        inside = inside_less (pc + (n + m + 3)) (start + m) r.after r.again w (omega arith) r.inside;
-        has_test = has_back code start m ys tests (all_are b start r.after r.again head) over;
-        is_after = refl;
-        end = pc + (n + m + 3);
-        goes = stay code _ _ ends;
-        next = r.next;
-      })
+      let ends : after ≡ pc + (n + m + 3) = omega arith in (
+        after,
+        record {
+          first = pc + 1;
+          before = refl;
+          has_body = has_front code (pc + 1) xs (ys ++ tests) parts;
+          out = r.after;
+          over = r.again;
+          has_head = has_front code start ys tests over;
+          inside = inside_less (pc + (n + m + 3)) (start + m) r.after r.again w (omega arith) r.inside;
+          has_test = has_back code start m ys tests (all_are b start r.after r.again head) over;
+          is_after = refl;
+          end = pc + (n + m + 3);
+          goes = stay code _ _ ends;
+          next = r.next;
+        },
+      )
 
   pub head_at : (pc on : ℕ) (head body : Stmts) (w : Work) → At pc (Loop head on body w) → At pc (Rest head (Test head on body w))
   head_at pc on head body w (after, l) = record {

@@ -12,8 +12,7 @@ use Rattle.hy_check.proofs.checker.Checker.note_callable.Goals as goal
 
 pub note_variants-requires-clause-number : goal.note_variants-requires-clause-number
 note_variants-requires-clause-number c =
-    let callable = callable_of c.args.c.now in
-    (
+    let callable = callable_of c.args.c.now in (
       callable,
       subst (λ around. IsNumber c.note_result.new.self.types (result_type around.source callable.result) c.in_ok-id.id)
           (sym c.in_ok-id.ensures.learns.around) c.in_ok-id.ensures.number,

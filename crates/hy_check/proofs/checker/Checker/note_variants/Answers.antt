@@ -18,8 +18,7 @@ note_variant-requires-clause-right c = let (callable, number) = c.requires.numbe
 pub note_variant-requires-clause-number : goal.note_variant-requires-clause-number
 note_variant-requires-clause-number c =
     let (callable, number) = c.requires.number in
-    let so = c.loop-v.invariant callable number in
-    (
+    let so = c.loop-v.invariant callable number in (
       callable,
       subst (λ source. IsNumber c.loop-v.self.types (result_type source callable.result) c.args.id)
           (sym (same_source variant_of (λ source v. variant_facts source callable v) c.args.variants.now c.args.self.now c.loop-v.self c.loop-v.v-index so))
