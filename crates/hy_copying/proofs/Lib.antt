@@ -1,6 +1,6 @@
 mod Copies
-mod Turns
-mod TurnsOfExpressions
-mod TurnsOfLives
-mod TurnsOfOpening
-mod TurnsOfStatements
+mod ExpressionsWithin
+mod LivesWithin
+mod OpeningWithin
+mod StatementsWithin
+mod Within

@@ -1,5 +1,6 @@
 -- Laws of the copying meaning.
-use Rattle.std.specs.Prelude.{◌≡◌, ℕ, suc, ◌+◌, ◌-◌, Bool, false, List, [], ◌∷◌, length, Option, None}
+use Rattle.std.specs.Prelude.{◌≡◌, ℕ, suc, ◌+◌, ◌-◌, Bool, false, List, [], ◌∷◌, length, Option, None, ◌++◌, ◌≤◌, Some}
+use Rattle.hy_base.specs.declared.run.End.{End}
 use Rattle.hy_base.specs.declared.run.End.TheVariants as end
 use Rattle.hy_tree.specs.Tree as T
 use Rattle.hy_check.specs.Uses as U
@@ -9,7 +10,7 @@ use Rattle.hy_copying.specs.Places.{Root, Local, Rooted, NoArgument, Lent, Entry
 use Rattle.hy_copying.specs.Does.{Gives}
 use Rattle.hy_copying.specs.Lives.{Later, copies}
 use Rattle.hy_copying.specs.Opening.{reads, moves, with_open}
-use Rattle.hy_copying.specs.Meaning.{run, mean}
+use Rattle.hy_copying.specs.Meaning.{Report, run, mean}
 
 -- A run with no turns is spent, and has done nothing.
 abbrev pub NothingIsDoneWithoutATurn : Type 0
@@ -22,6 +23,24 @@ abbrev pub SpentRunsTookAllTurns : Type 0
 SpentRunsTookAllTurns =
     (tree : T.Program) (input : List ℕ) (cut : Bool) (n : ℕ) (events : Option ℕ)
     → (run tree input cut n events).halt ≡ Ends end.Spent → (run tree input cut n events).turns ≡ n
+
+-- what is seen of a run at some point, as against the whole of it
+pub record IsBeginning (r whole : Report) : Type 0 where
+  pub more : List ℕ
+  pub output : whole.output ≡ r.output ++ more
+  pub turns : r.turns ≤ whole.turns
+  pub opened : r.opened ≤ whole.opened
+
+-- What is seen in a state of a run is a beginning of what is seen in the end.
+abbrev pub StatesAreBeginnings : Type 0
+StatesAreBeginnings =
+    (tree : T.Program) (input : List ℕ) (cut : Bool) (n events : ℕ) → IsBeginning (run tree input cut n (Some events)) (mean tree input cut n)
+
+-- A limit on events that a run does not meet changes nothing.
+abbrev pub RunsThatEndAreWhole : Type 0
+RunsThatEndAreWhole =
+    (tree : T.Program) (input : List ℕ) (cut : Bool) (n events : ℕ) (x : End)
+    → (run tree input cut n (Some events)).halt ≡ Ends x → run tree input cut n (Some events) ≡ mean tree input cut n
 
 -- COPIES
 

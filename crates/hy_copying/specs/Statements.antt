@@ -1,6 +1,7 @@
 -- What statements and bodies do.
 use Rattle.std.specs.Prelude.{ℕ, zero, suc, ◌-◌, ◌==◌, ◌||◌, Bool, false, List, [], ◌∷◌, ◌++◌, length, map, reverse, Option, Some, None}
 use Rattle.hy_base.specs.declared.position.Span.{Span}
+use Rattle.hy_base.specs.declared.run.End.TheVariants as end
 use Rattle.hy_tree.specs.Tree as T
 use Rattle.hy_tree.specs.declared.operator.Arithmetic.{Arithmetic}
 use Rattle.hy_tree.specs.declared.operator.Introducer.{Introducer}
@@ -14,7 +15,7 @@ use Rattle.hy_check.specs.Uses.{Use, use_in, argument_use_by}
 use Rattle.hy_core.specs.Values.{Val, Unset}
 use Rattle.hy_copying.specs.Kinds.{is_true, unit_value}
 use Rattle.hy_copying.specs.Known.{Known, type_at, mentioned, owner_of, variant_for}
-use Rattle.hy_copying.specs.Runs.{State, Slid, Back, Late, Came, Returned, Yielded, Halted}
+use Rattle.hy_copying.specs.Runs.{Ends, State, Slid, Back, Late, Came, Returned, Yielded, Halted}
 use Rattle.hy_copying.specs.Places.{Root, Local, Itself, Temporary, Located, NoArgument, Lent, Opened, lends, temporaries_of, and_last}
 use Rattle.hy_copying.specs.Places.{Entry, Standing, Owned, OnlyLent, Bound, Held, Env}
 use Rattle.hy_copying.specs.Does.{Outcome, Gives, Yields, Stops, Does, Acts, ◌>>=◌, ◌>>◌, give, nothing, impossible, when, changes, declares}
@@ -387,7 +388,7 @@ values_of env = reverse (map (λ (e : Entry). e.value) env.locals)
 
 abbrev pub slid : Outcome Course → Slid
 slid (Gives course env s) = Back (values_of env) s
-slid (Yields v s resumed) = slid (resumed v s)
+slid (Yields v s resumed) = Late (Ends end.Asks) s
 slid (Stops h s) = Late h s
 
 abbrev pub came : Outcome Course → Came

@@ -2,7 +2,8 @@
 //! were copied. `docs/COPYING.md` tells it in words. No code is proved against these definitions yet.
 #![tactic(auto)]
 
-ghost use Rattle.hy_copying.specs.Laws.{NothingIsDoneWithoutATurn, SpentRunsTookAllTurns, CopiesCostTurns, ReadsChangeNothing, MovesUnset, LentForChange};
+ghost use Rattle.hy_copying.specs.Laws.{NothingIsDoneWithoutATurn, SpentRunsTookAllTurns, StatesAreBeginnings, RunsThatEndAreWhole};
+ghost use Rattle.hy_copying.specs.Laws.{CopiesCostTurns, ReadsChangeNothing, MovesUnset, LentForChange};
 
 /// A run with no turns is spent, and has done nothing.
 pub fn no_turn()
@@ -12,6 +13,16 @@ pub fn no_turn()
 /// A run that is spent has taken all turns that it may take.
 pub fn spent_runs_took_all_turns()
     ensures { SpentRunsTookAllTurns }
+{}
+
+/// What is seen in a state of a run is a beginning of what is seen in the end: its output, turns and opened places.
+pub fn states_are_beginnings()
+    ensures { StatesAreBeginnings }
+{}
+
+/// A limit on events that a run does not meet changes nothing.
+pub fn runs_that_end_are_whole()
+    ensures { RunsThatEndAreWhole }
 {}
 
 /// A copy takes a turn and opens a place for each array and each element of one, and does nothing else.

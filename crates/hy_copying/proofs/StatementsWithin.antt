@@ -1,7 +1,8 @@
--- Turns of statements, bodies and runs.
-use Rattle.std.proofs.Common.{◌≡◌, subst, arith}
+-- The facts of `Within` for statements and bodies, and what follows of runs.
+use Rattle.std.proofs.Common.{◌≡◌, refl, sym, subst, ap, arith}
 use Rattle.std.specs.Prelude.{ℕ, zero, suc, ◌≤◌, ◌-◌, ◌||◌, Bool, false, List, [], ◌∷◌, ◌++◌, map, length, Option, Some, None}
 use Rattle.hy_base.specs.declared.position.Span.{Span}
+use Rattle.hy_base.specs.declared.run.End.{End}
 use Rattle.hy_base.specs.declared.run.End.TheVariants as end
 use Rattle.hy_tree.specs.Tree as T
 use Rattle.hy_tree.specs.declared.operator.Arithmetic.{Arithmetic}
@@ -16,7 +17,7 @@ use Rattle.hy_check.specs.Uses.{Use, use_in, argument_use_by}
 use Rattle.hy_core.specs.Values.{Val}
 use Rattle.hy_copying.specs.Kinds.{is_true, parts_in}
 use Rattle.hy_copying.specs.Known.{Known, known_of, main_of, mentioned, variant_for}
-use Rattle.hy_copying.specs.Runs.{State, Halt, Ends, Came, Returned, Yielded, Halted}
+use Rattle.hy_copying.specs.Runs.{State, Halt, Ends, Before, Late, Came, Returned, Yielded, Halted}
 use Rattle.hy_copying.specs.Places.{Located, Lent, NoArgument, Opened, Entry, Standing, Owned, OnlyLent, Bound, Held, Env, temporaries_of, and_last}
 use Rattle.hy_copying.specs.Does
 use Rattle.hy_copying.specs.Does.{Outcome, Gives, Yields, Stops, Does, Acts, take_newest, turn}
@@ -25,17 +26,18 @@ use Rattle.hy_copying.specs.Opening.{Place}
 use Rattle.hy_copying.specs.Expressions.{Ready, Is, Has, Awaits}
 use Rattle.hy_copying.specs.Statements
 use Rattle.hy_copying.specs.Statements.{Course, GoesOn, Returns, Breaks, Continues}
-use Rattle.hy_copying.specs.Laws.{SpentRunsTookAllTurns}
+use Rattle.hy_copying.specs.Laws.{SpentRunsTookAllTurns, StatesAreBeginnings, RunsThatEndAreWhole, IsBeginning}
 use Rattle.hy_copying.specs.Meaning
 use Rattle.hy_copying.specs.Meaning.{at_most}
-use Rattle.hy_copying.proofs.Turns.{thus, itself, Halts, SlidWithin, CameWithin}
-use Rattle.hy_copying.proofs.Turns.{StandingWithin, EntriesWithin, EnvWithin, standing_less, entries_less, env_less}
-use Rattle.hy_copying.proofs.Turns.{opened_less, OutWithin, Within, Any, out_more, seq, less, gives, LaterWithin, later_less}
-use Rattle.hy_copying.proofs.TurnsOfLives.{never, nothing_within, chosen, changed_within}
-use Rattle.hy_copying.proofs.TurnsOfLives.{declared_within, count_within, turn_within, Fewer, deinitialised_within}
-use Rattle.hy_copying.proofs.TurnsOfLives.{temporaries_within, statement_within, all_go_within, parts_within}
-use Rattle.hy_copying.proofs.TurnsOfOpening.{holds_within, closes_within, opens_within, with_within, calls_within, PlaceWithin}
-use Rattle.hy_copying.proofs.TurnsOfExpressions.{given, computes_within, placed_within, looked_within, takes_within, ready_within}
+use Rattle.hy_copying.proofs.Within.{thus, itself, free, Comes, stays, stays_but, then_comes}
+use Rattle.hy_copying.proofs.Within.{Stopped, slid_state, came_state, out_state, Halts, SlidWithin, CameWithin}
+use Rattle.hy_copying.proofs.Within.{StandingWithin, EntriesWithin, EnvWithin, standing_less, entries_less, env_less}
+use Rattle.hy_copying.proofs.Within.{opened_less, OutWithin, Within, Any, seq, less, gives, LaterWithin, later_less}
+use Rattle.hy_copying.proofs.LivesWithin.{never, nothing_within, chosen, changed_within}
+use Rattle.hy_copying.proofs.LivesWithin.{declared_within, count_within, turn_within, Fewer, deinitialised_within}
+use Rattle.hy_copying.proofs.LivesWithin.{temporaries_within, statement_within, all_go_within, parts_within}
+use Rattle.hy_copying.proofs.OpeningWithin.{holds_within, closes_within, opens_within, with_within, calls_within, PlaceWithin}
+use Rattle.hy_copying.proofs.ExpressionsWithin.{given, computes_within, placed_within, looked_within, takes_within, ready_within}
 
 goes_on_within : {d : ℕ} {acts : Acts} → Within Any d acts → Within Any d (Statements.goes_on acts)
 goes_on_within is = seq is (λ c a le q. given GoesOn)
@@ -90,7 +92,7 @@ returns_within None l = given _
 returns_within (Some e) l = seq (statement_within l (taken_within e l)) (λ c v le q. given _)
 
 handed_within : {d : ℕ} (v : Val) → Within Any d (Statements.hands_out v)
-handed_within v = record { holds = λ env s le good. (itself s.turns, λ w u lu. (itself u.turns, env_less lu good, tt)) }
+handed_within v = record { holds = λ env s le good. (stays s, λ w u lu. (stays u, env_less lu good, tt, refl), refl) }
 
 yields_within : {d : ℕ} {later : Later} (e : T.Expr) → LaterWithin d later → Within Any d (Statements.yields later e)
 yields_within e l = seq (ready_within e l) (λ c of le q. seq (placed_within _ of (later_less le l))
@@ -112,14 +114,15 @@ Newest b None = Unit {0}
 Newest b (Some e) = StandingWithin b e.standing
 
 taken_away : (b : ℕ) (es : List Entry) (env : Env) (s : State) → s.turns ≤ b → EntriesWithin s.turns es → EnvWithin s.turns env
-    → OutWithin Newest s.turns (Does.taken es env s)
-taken_away b [] env s le es good = (itself s.turns, good, tt)
-taken_away b (e ∷ more) env s le es good = (itself s.turns, record { locals = es.1; temporaries = good.temporaries }, es.0)
+    → OutWithin Newest s (Does.taken es env s) (Does.taken es env (free s))
+taken_away b [] env s le es good = (stays s, good, tt, refl)
+taken_away b (e ∷ more) env s le es good = (stays s, record { locals = es.1; temporaries = good.temporaries }, es.0, refl)
 
 newest_within : {d : ℕ} → Within Newest d take_newest
 newest_within {d} = record { holds = λ env s le good. taken_away d env.locals env s le good.locals good }
 
-entry_ends : {d : ℕ} {later : Later} (is_mentioned : ℕ → Bool) (wanted : List ℕ) (e : Entry) (standing : Standing) (older : List ℕ → Acts) → LaterWithin d later
+entry_ends : {d : ℕ} {later : Later} (is_mentioned : ℕ → Bool) (wanted : List ℕ) (e : Entry) (standing : Standing) (older : List ℕ → Acts)
+    → LaterWithin d later
     → StandingWithin d e.standing → StandingWithin d standing → ((ns : List ℕ) → Within Any d (older ns))
     → Within Any d (Statements.ends_entry later is_mentioned wanted e standing older)
 entry_ends is_mentioned wanted e (Bound used place from temporaries) older l one is more =
@@ -322,26 +325,42 @@ whole_body_within : {d : ℕ} {later : Later} (block : T.Block) → LaterWithin 
 whole_body_within block l =
     seq (body_within block l) (λ c course le q. seq (body_ends_within (later_less le l)) (λ b u lt r. given course))
 
-slid_from : (b : ℕ) (o : Outcome Course) → OutWithin Any b o → SlidWithin b (Statements.slid o)
-slid_from b (Gives course env t) is = is.0
-slid_from b (Yields v t resumed) is = slid_from b (resumed v t) (out_more Any (resumed v t) is.0 (is.1 v t (itself t.turns)))
-slid_from b (Stops h t) is = is
+slid_as : (h : Halt) (t : State) (o : Outcome Course) → Stopped h t (out_state o) (o ≡ Stops h (free t))
+    → Stopped h t (slid_state (Statements.slid o)) (Statements.slid o ≡ Late h (free t))
+slid_as (Before e) t (Gives course env u) is = is
+slid_as (Before e) t (Yields v u resumed) is = is
+slid_as (Before e) t (Stops h u) is = is
+slid_as (Ends x) t o is = ap Statements.slid is
 
-came_from : (b : ℕ) (o : Outcome Course) → OutWithin Any b o → CameWithin b (Statements.came o)
-came_from b (Gives course env t) is = is.0
-came_from b (Yields v t resumed) is = (is.0, λ w u lu. slid_from u.turns (resumed w u) (is.1 w u lu))
-came_from b (Stops h t) is = is
+slid_from : (s : State) (o whole : Outcome Course) → OutWithin Any s o whole → SlidWithin s (Statements.slid o) (Statements.slid whole)
+slid_from s (Gives course env t) whole is = (is.0, ap Statements.slid is.3)
+slid_from s (Yields v t resumed) whole is = (tt, is.0, ap Statements.slid is.2)
+slid_from s (Stops h t) whole is = (is.0, is.1, slid_as h t whole is.2)
+
+came_as : (h : Halt) (t : State) (o : Outcome Course) → Stopped h t (out_state o) (o ≡ Stops h (free t))
+    → Stopped h t (came_state (Statements.came o)) (Statements.came o ≡ Halted h (free t))
+came_as (Before e) t (Gives course env u) is = is
+came_as (Before e) t (Yields v u resumed) is = is
+came_as (Before e) t (Stops h u) is = is
+came_as (Ends x) t o is = ap Statements.came is
+
+came_from : (s : State) (o whole : Outcome Course) → OutWithin Any s o whole → CameWithin s (Statements.came o) (Statements.came whole)
+came_from s (Gives course env t) whole is = (is.0, ap Statements.came is.3)
+came_from s (Yields v t resumed) whole is =
+    (is.0, λ w u lu. slid_from u (resumed w u) (resumed w (free u)) (is.1 w u lu), ap Statements.came is.2)
+came_from s (Stops h t) whole is = (is.0, is.1, came_as h t whole is.2)
 
 variant_within : {later : Later} (c : T.Callable) (v : Option T.Variant) (vs : List Val) (s : State) → LaterWithin s.turns later
-    → CameWithin s.turns (Statements.body_in later c v vs s)
-variant_within c None vs s l = itself s.turns
+    → CameWithin s (Statements.body_in later c v vs s) (Statements.body_in later c v vs (free s))
+variant_within c None vs s l = (stays s, refl)
 variant_within {later = later} c (Some v) vs s l =
-    came_from s.turns _ ((whole_body_within v.block l).holds (Statements.at_start (Statements.parameters later.known c v) vs) s (itself s.turns)
-    (start_within s.turns later.known c v vs))
+    let env = Statements.at_start (Statements.parameters later.known c v) vs in
+    came_from s (Statements.whole_body later v.block env s) (Statements.whole_body later v.block env (free s))
+    ((whole_body_within v.block l).holds env s (itself s.turns) (start_within s.turns later.known c v vs))
 
 callable_within : {later : Later} (c : Option T.Callable) (variant : Mode) (vs : List Val) (s : State) → LaterWithin s.turns later
-    → CameWithin s.turns (Statements.body_at later c variant vs s)
-callable_within None variant vs s l = itself s.turns
+    → CameWithin s (Statements.body_at later c variant vs s) (Statements.body_at later c variant vs (free s))
+callable_within None variant vs s l = (stays s, refl)
 callable_within (Some c) variant vs s l = variant_within c (variant_for variant c.variants) vs s l
 
 -- RUNS
@@ -374,21 +393,112 @@ none_left h s is same = subst (λ h. Halts h s) same is
 all_taken : (n left : ℕ) → left ≡ 0 → n - left ≡ n
 all_taken n left is = omega (arith, is)
 
-spent : (input : List ℕ) (n b : ℕ) (came : Came) → CameWithin b came → (Meaning.ended input n came).halt ≡ Ends end.Spent
-    → (Meaning.ended input n came).turns ≡ n
-spent input n b (Returned v vs s) is same = all_taken n s.turns (none_left (Ends end.Done) s tt same)
-spent input n b (Yielded v s slide) is same = all_taken n s.turns (none_left (Ends end.Done) s tt same)
-spent input n b (Halted h s) is same = all_taken n s.turns (none_left h s is same)
+spent : (input : List ℕ) (n : ℕ) (s : State) (came whole : Came) → CameWithin s came whole
+    → (Meaning.ended input n came).halt ≡ Ends end.Spent → (Meaning.ended input n came).turns ≡ n
+spent input n s (Returned v vs t) whole is same = all_taken n t.turns (none_left (Ends end.Done) t tt same)
+spent input n s (Yielded v t slide) whole is same = all_taken n t.turns (none_left (Ends end.Done) t tt same)
+spent input n s (Halted h t) whole is same = all_taken n t.turns (none_left h t is.0 same)
 
-begun : (known : Known) (input : List ℕ) (n b : ℕ) (o : Outcome (Unit {0})) → OutWithin (Fewer n) b o
-    → (Meaning.ended input n (Meaning.begun (at_most known n) o)).halt ≡ Ends end.Spent
-    → (Meaning.ended input n (Meaning.begun (at_most known n) o)).turns ≡ n
-begun known input n b (Gives given env s) is same =
-    spent input n s.turns _ ((at_most_within known n).body (main_of (at_most known n).known.source) mode.Let [] s is.2) same
-begun known input n b (Yields v s resumed) is same = all_taken n s.turns (none_left (Ends end.Done) s tt same)
-begun known input n b (Stops h s) is same = spent input n b (Halted h s) is same
+came_comes : (s : State) (came whole : Came) → CameWithin s came whole → Comes s (came_state came)
+came_comes s (Returned v vs t) whole is = is.0
+came_comes s (Yielded v t slide) whole is = is.0
+came_comes s (Halted h t) whole is = is.1
+
+came_more : (s t : State) (came whole : Came) → Comes s t → CameWithin t came whole → CameWithin s came whole
+came_more s t (Returned v vs u) whole comes is = (then_comes comes is.0, is.1)
+came_more s t (Yielded v u slide) whole comes is = (then_comes comes is.0, is.1, is.2)
+came_more s t (Halted h u) whole comes is = (is.0, then_comes comes is.1, is.2)
+
+main_within : (known : Known) (n : ℕ) (s : State) → suc s.turns ≤ n
+    → CameWithin s ((at_most known n).body (main_of (at_most known n).known.source) mode.Let [] s)
+    ((at_most known n).body (main_of (at_most known n).known.source) mode.Let [] (free s))
+main_within known n s le = (at_most_within known n).body (main_of (at_most known n).known.source) mode.Let [] s le
+
+begun_on : (known : Known) (n : ℕ) (s : State) (o whole : Outcome (Unit {0})) → OutWithin (Fewer n) s o whole
+    → Comes (out_state o) (came_state (Meaning.begun (at_most known n) o))
+begun_on known n s (Gives given env t) whole is = came_comes t _ _ (main_within known n t is.2)
+begun_on known n s (Yields v t resumed) whole is = stays t
+begun_on known n s (Stops h t) whole is = stays t
+
+begun_stops : (known : Known) (n : ℕ) (h : Halt) (t : State) (o : Outcome (Unit {0})) → Comes (out_state o) (came_state (Meaning.begun (at_most known n) o))
+    → Stopped h t (out_state o) (o ≡ Stops h (free t))
+    → Stopped h t (came_state (Meaning.begun (at_most known n) o)) (Meaning.begun (at_most known n) o ≡ Halted h (free t))
+begun_stops known n (Before e) t o after is = then_comes is after
+begun_stops known n (Ends x) t o after is = ap (Meaning.begun (at_most known n)) is
+
+begun : (known : Known) (n : ℕ) (s : State) (o whole : Outcome (Unit {0})) → OutWithin (Fewer n) s o whole → OutWithin (Fewer n) (free s) whole whole
+    → CameWithin s (Meaning.begun (at_most known n) o) (Meaning.begun (at_most known n) whole)
+begun known n s (Gives given env t) whole is own =
+    subst (λ o. CameWithin s ((at_most known n).body (main_of (at_most known n).known.source) mode.Let [] t) (Meaning.begun (at_most known n) o)) (sym is.3)
+    (came_more s t _ _ is.0 (main_within known n t is.2))
+begun known n s (Yields v t resumed) whole is own = (tt, is.0, ap (Meaning.begun (at_most known n)) is.2)
+begun known n s (Stops h t) whole is own =
+    (is.0, is.1, begun_stops known n h t whole (begun_on known n (free s) whole whole own) is.2)
+
+abbrev no_env : Env
+no_env = record { locals = []; temporaries = [] }
+
+pub main_runs : (tree : T.Program) (input : List ℕ) (cut : Bool) (n : ℕ) (events : Option ℕ)
+    → CameWithin (Meaning.start input cut n events) (Meaning.runs_main (at_most (known_of tree) n) (Meaning.start input cut n events))
+    (Meaning.runs_main (at_most (known_of tree) n) (Meaning.start input cut n None))
+main_runs tree input cut n events =
+    begun (known_of tree) n (Meaning.start input cut n events) (turn no_env (Meaning.start input cut n events)) (turn no_env (Meaning.start input cut n None))
+    (turn_within.holds no_env (Meaning.start input cut n events) (itself n) (record { locals = tt; temporaries = tt }))
+    (turn_within.holds no_env (Meaning.start input cut n None) (itself n) (record { locals = tt; temporaries = tt }))
 
 pub spent_runs : SpentRunsTookAllTurns
-spent_runs tree input cut n events same =
-    begun (known_of tree) input n n _
-    (turn_within.holds (record { locals = []; temporaries = [] }) (Meaning.start input cut n events) (itself n) (record { locals = tt; temporaries = tt })) same
+spent_runs tree input cut n events same = spent input n _ _ _ (main_runs tree input cut n events) same
+
+fewer_left : (n a b : ℕ) → b ≤ a → n - a ≤ n - b
+fewer_left n a b le = omega (arith, le)
+
+later_report : (input : List ℕ) (n : ℕ) (h i : Halt) (s t : State) → Comes s t → IsBeginning (Meaning.report input n h s) (Meaning.report input n i t)
+later_report input n h i s t comes =
+    record { more = comes.more; output = comes.output; turns = fewer_left n s.turns t.turns comes.turns; opened = comes.opened }
+
+ended_after : (input : List ℕ) (n : ℕ) (h : Halt) (s : State) (came : Came) → Comes s (came_state came)
+    → IsBeginning (Meaning.report input n h s) (Meaning.ended input n came)
+ended_after input n h s (Returned v vs t) comes = later_report input n h _ s t comes
+ended_after input n h s (Yielded v t slide) comes = later_report input n h _ s t comes
+ended_after input n h s (Halted i t) comes = later_report input n h i s t comes
+
+same_report : (input : List ℕ) (n : ℕ) (h : Halt) (s : State) (whole : Came) → Meaning.ended input n whole ≡ Meaning.report input n h (free s)
+    → IsBeginning (Meaning.report input n h s) (Meaning.ended input n whole)
+same_report input n h s whole is =
+    subst (λ r. IsBeginning (Meaning.report input n h s) r) (sym is) (later_report input n h h s (free s) (stays_but s None))
+
+stopped_report : (input : List ℕ) (n : ℕ) (h : Halt) (s : State) (whole : Came) → Stopped h s (came_state whole) (whole ≡ Halted h (free s))
+    → IsBeginning (Meaning.report input n h s) (Meaning.ended input n whole)
+stopped_report input n (Before e) s whole is = ended_after input n (Before e) s whole is
+stopped_report input n (Ends x) s whole is = same_report input n (Ends x) s whole (ap (Meaning.ended input n) is)
+
+begins : (input : List ℕ) (n : ℕ) (s : State) (came whole : Came) → CameWithin s came whole
+    → IsBeginning (Meaning.ended input n came) (Meaning.ended input n whole)
+begins input n s (Returned v vs t) whole is = same_report input n _ t whole (ap (Meaning.ended input n) is.1)
+begins input n s (Yielded v t slide) whole is = same_report input n _ t whole (ap (Meaning.ended input n) is.2)
+begins input n s (Halted h t) whole is = stopped_report input n h t whole is.2
+
+pub beginnings : StatesAreBeginnings
+beginnings tree input cut n events = begins input n _ _ _ (main_runs tree input cut n (Some events))
+
+-- a run that ends within its limit on events is the whole run
+abbrev IsBefore : Halt → Type 0
+IsBefore (Before e) = Unit {0}
+IsBefore (Ends x) = ⊥
+
+is_whole : (input : List ℕ) (n : ℕ) (x : End) (h : Halt) (s : State) (whole : Came) → h ≡ Ends x → Stopped h s (came_state whole) (whole ≡ Halted h (free s))
+    → Meaning.report input n h s ≡ Meaning.ended input n whole
+is_whole input n x (Before e) s whole same is = absurd (differ same)
+  where
+    differ : Before e ≡ Ends x → ⊥
+    differ same = subst (λ h. IsBefore h) same tt
+is_whole input n x (Ends y) s whole same is = sym (ap (Meaning.ended input n) is)
+
+whole_runs_of : (input : List ℕ) (n : ℕ) (x : End) (s : State) (came whole : Came) → CameWithin s came whole
+    → (Meaning.ended input n came).halt ≡ Ends x → Meaning.ended input n came ≡ Meaning.ended input n whole
+whole_runs_of input n x s (Returned v vs t) whole is same = sym (ap (Meaning.ended input n) is.1)
+whole_runs_of input n x s (Yielded v t slide) whole is same = sym (ap (Meaning.ended input n) is.2)
+whole_runs_of input n x s (Halted h t) whole is same = is_whole input n x h t whole same is.2
+
+pub whole_runs : RunsThatEndAreWhole
+whole_runs tree input cut n events x same = whole_runs_of input n x _ _ _ (main_runs tree input cut n (Some events)) same

@@ -1,5 +1,5 @@
--- Turns of opening and closing places, and of calls.
-use Rattle.std.proofs.Common.{arith}
+-- The facts of `Within` for places that are opened and closed, and for calls.
+use Rattle.std.proofs.Common.{refl, ap, arith}
 use Rattle.std.specs.Prelude.{ℕ, Bool, true, false, List, [], ◌∷◌, Option, Some, None}
 use Rattle.hy_base.specs.declared.position.Span.{Span}
 use Rattle.hy_types.specs.Types.{PlainType}
@@ -15,10 +15,11 @@ use Rattle.hy_copying.specs.Does.{Does}
 use Rattle.hy_copying.specs.Lives.{Later, first, rest}
 use Rattle.hy_copying.specs.Opening
 use Rattle.hy_copying.specs.Opening.{Place, Places, Worked, starts, closes, all_close, opens, all_open, with_open, calls, reads, moves, holds_all, put_back}
-use Rattle.hy_copying.proofs.Turns.{thus, itself, CameWithin, OpenedWithin, OpenedsWithin, StandingWithin, EntriesWithin, EnvWithin}
-use Rattle.hy_copying.proofs.Turns.{opened_less, openeds_less, env_less, OutWithin, Within, Any, seq, less, gives, LaterWithin, later_less}
-use Rattle.hy_copying.proofs.TurnsOfLives.{trapped, nothing_within, chosen, changed_within, count_within, turn_within, slides_within}
-use Rattle.hy_copying.proofs.TurnsOfLives.{deinitialised_within, all_go_within}
+use Rattle.hy_copying.proofs.Within.{thus, free, Comes, stays, came_state}
+use Rattle.hy_copying.proofs.Within.{out_state, CameWithin, OpenedWithin, OpenedsWithin, StandingWithin, EntriesWithin, EnvWithin}
+use Rattle.hy_copying.proofs.Within.{opened_less, openeds_less, env_less, OutWithin, Within, Any, seq, less, gives, LaterWithin, later_less}
+use Rattle.hy_copying.proofs.LivesWithin.{trapped, nothing_within, chosen, changed_within, count_within, turn_within, slides_within, came_stops}
+use Rattle.hy_copying.proofs.LivesWithin.{deinitialised_within, all_go_within}
 
 -- ENTRIES THAT ARE CHANGED
 
@@ -72,16 +73,24 @@ mutual
 
 -- BODIES
 
-back : (came : Came) (env : Env) (s : State) → CameWithin s.turns came → EnvWithin s.turns env → OutWithin Any s.turns (Opening.came_back came env s)
-back (Returned v ps t) env s is good = (is, env_less is good, tt)
-back (Yielded v t slide) env s is good = tt
-back (Halted h t) env s is good = is
+back_on : (came whole : Came) (env : Env) (s : State) → CameWithin s came whole → Comes (came_state came) (out_state (Opening.came_back came env s))
+back_on (Returned v ps t) whole env s is = stays t
+back_on (Yielded v t slide) whole env s is = stays t
+back_on (Halted h t) whole env s is = stays t
+
+back : (came whole : Came) (env : Env) (s : State) → CameWithin s came whole → CameWithin (free s) whole whole → EnvWithin s.turns env
+    → OutWithin Any s (Opening.came_back came env s) (Opening.came_back whole env (free s))
+back (Returned v ps t) whole env s is own good = (is.0, env_less is.0.turns good, tt, ap (λ o. Opening.came_back o env (free s)) is.1)
+back (Yielded v t slide) whole env s is own good = (tt, is.0, ap (λ o. Opening.came_back o env (free s)) is.2)
+back (Halted h t) whole env s is own good =
+    (is.0, is.1, came_stops h t whole (λ o. Opening.came_back o env (free s)) (back_on whole whole env (free s) own) refl is.2)
 
 pub body_within : {d : ℕ} {later : Later} (sig : Sig) (values : List Val) → LaterWithin d later → Within Any d (Opening.body_runs later sig values)
 body_within {later = later} sig values l = seq turn_within (λ c a le fewer. record {
   holds = λ env s lt good.
-      back (later.body (Opening.called later.known.source sig.callee (first values)) sig.variant values s) env s
-      (l.body _ sig.variant values s (omega (arith, lt, fewer))) good;
+      let node = Opening.called later.known.source sig.callee (first values) in
+      back (later.body node sig.variant values s) (later.body node sig.variant values (free s)) env s
+      (l.body node sig.variant values s (omega (arith, lt, fewer))) (l.body node sig.variant values (free s) (omega (arith, lt, fewer))) good;
 })
 
 abbrev pub PlaceWithin : ℕ → Place → Type 0
@@ -90,19 +99,35 @@ PlaceWithin b p = OpenedWithin b p.opened
 abbrev pub PlacesWithin : ℕ → Places → Type 0
 PlacesWithin b ps = OpenedsWithin b ps.opened
 
-projected : (came : Came) (type : PlainType) (places : Openeds) (temporaries : List ℕ) (env : Env) (s : State) → CameWithin s.turns came
-    → OpenedsWithin s.turns places → EnvWithin s.turns env → OutWithin PlaceWithin s.turns (Opening.yielded type places temporaries came env s)
-projected (Returned v ps t) type places temporaries env s is os good = tt
-projected (Yielded v t slide) type places temporaries env s is os good = (is.0, env_less is.0 good, (is.1, openeds_less places is.0 os))
-projected (Halted h t) type places temporaries env s is os good = is
+projected_on : (came whole : Came) (type : PlainType) (places : Openeds) (temporaries : List ℕ) (env : Env) (s : State) → CameWithin s came whole
+    → Comes (came_state came) (out_state (Opening.yielded type places temporaries came env s))
+projected_on (Returned v ps t) whole type places temporaries env s is = stays t
+projected_on (Yielded v t slide) whole type places temporaries env s is = stays t
+projected_on (Halted h t) whole type places temporaries env s is = stays t
 
-ramps_within : {d : ℕ} {later : Later} (sig : Sig) (type : PlainType) (temporaries : List ℕ) (places : Places) → LaterWithin d later → PlacesWithin d places
-    → Within PlaceWithin d (Opening.ramps later sig type temporaries places)
+projected : (came whole : Came) (type : PlainType) (places : Openeds) (temporaries : List ℕ) (env : Env) (s : State) → CameWithin s came whole
+    → CameWithin (free s) whole whole → OpenedsWithin s.turns places → EnvWithin s.turns env
+    → OutWithin PlaceWithin s (Opening.yielded type places temporaries came env s) (Opening.yielded type places temporaries whole env (free s))
+projected (Returned v ps t) whole type places temporaries env s is own os good =
+    (tt, is.0, ap (λ o. Opening.yielded type places temporaries o env (free s)) is.1)
+projected (Yielded v t slide) whole type places temporaries env s is own os good =
+    (is.0, env_less is.0.turns good, (is.1, openeds_less places is.0.turns os), ap (λ o. Opening.yielded type places temporaries o env (free s)) is.2)
+projected (Halted h t) whole type places temporaries env s is own os good = (
+  is.0,
+  is.1,
+  came_stops h t whole (λ o. Opening.yielded type places temporaries o env (free s))
+      (projected_on whole whole type places temporaries env (free s) own) refl is.2,
+)
+
+ramps_within : {d : ℕ} {later : Later} (sig : Sig) (type : PlainType) (temporaries : List ℕ) (places : Places) → LaterWithin d later
+    → PlacesWithin d places → Within PlaceWithin d (Opening.ramps later sig type temporaries places)
 ramps_within {later = later} sig type temporaries places l os = seq (holds_within temporaries) (λ e w lw z. seq turn_within (λ c a le fewer. record {
   holds = λ env s lt good.
-      projected (later.body (Opening.called later.known.source sig.callee (first places.values)) sig.variant places.values s) type places.opened
-      temporaries env s
-      (l.body _ sig.variant places.values s (omega (arith, lt, fewer, lw))) (openeds_less places.opened (thus lt (thus le lw)) os) good;
+      let node = Opening.called later.known.source sig.callee (first places.values) in
+      projected (later.body node sig.variant places.values s) (later.body node sig.variant places.values (free s)) type places.opened temporaries env s
+      (l.body node sig.variant places.values s (omega (arith, lt, fewer, lw)))
+      (l.body node sig.variant places.values (free s) (omega (arith, lt, fewer, lw)))
+      (openeds_less places.opened (thus lt (thus le lw)) os) good;
 }))
 
 -- OPENING
@@ -117,7 +142,7 @@ index_within p (Some k) span is = seq count_within (λ c a le q. gives _ (λ b l
 
 mutual
   pub opens_within : {d : ℕ} {later : Later} (located : Located) → LaterWithin d later → Within PlaceWithin d (opens later located)
-  opens_within (Rooted root) l = record { holds = λ env s le good. (itself s.turns, good, tt) }
+  opens_within (Rooted root) l = record { holds = λ env s le good. (stays s, good, tt, refl) }
   opens_within (PartIn whole k) l = seq (opens_within whole l) (λ c p le q. gives _ (λ b lt. inner_within b (PartAt k) p.opened (opened_less p.opened lt q)))
   opens_within (ElementIn whole index span) l = seq (opens_within whole l) (λ c p le q. index_within p _ span q)
   opens_within (YieldedIn sig type arguments) l =

@@ -1,4 +1,5 @@
--- Turns of operations and of expressions.
+-- The facts of `Within` for operations and expressions.
+use Rattle.std.proofs.Common.{refl, sym, append-nil}
 use Rattle.std.specs.Prelude.{ℕ, Bool, false, List, [], ◌∷◌, Option, Some, None, Result, Ok, Err}
 use Rattle.hy_base.specs.Lines as L
 use Rattle.hy_base.specs.Lines.{Got, read_line}
@@ -30,9 +31,9 @@ use Rattle.hy_copying.specs.Operations
 use Rattle.hy_copying.specs.Operations.{Built, works}
 use Rattle.hy_copying.specs.Expressions
 use Rattle.hy_copying.specs.Expressions.{Ready, Is, Has, Awaits, ready, placed, looked_at, takes, passes}
-use Rattle.hy_copying.proofs.Turns.{thus, itself, EnvWithin, OutWithin, Within, Any, seq, less, gives, LaterWithin, later_less}
-use Rattle.hy_copying.proofs.TurnsOfLives.{trapped, never, chosen, changed_within, happens_within, statement_within, visits_within}
-use Rattle.hy_copying.proofs.TurnsOfOpening.{with_within, calls_within, reads_within, moves_within}
+use Rattle.hy_copying.proofs.Within.{thus, itself, free, Comes, stays, EnvWithin, OutWithin, Within, Any, seq, less, gives, LaterWithin, later_less}
+use Rattle.hy_copying.proofs.LivesWithin.{trapped, never, chosen, changed_within, happens_within, statement_within, visits_within}
+use Rattle.hy_copying.proofs.OpeningWithin.{with_within, calls_within, reads_within, moves_within}
 
 pub given : {A : Type 0} {d : ℕ} (a : A) → Within Any d (λ env s. Does.Gives a env s)
 given a = gives a (λ b le. tt)
@@ -76,16 +77,23 @@ converts_within (Y.Array element) span v = never
 converts_within (Y.Param place) span v = never
 
 writes_within : {d : ℕ} (piece : List ℕ) → Within Any d (Operations.writes piece)
-writes_within piece = record { holds = λ env s le good. (itself s.turns, good, tt) }
+writes_within piece = record {
+  holds = λ env s le good.
+      (record { more = piece; output = refl; turns = itself s.turns; opened = itself s.opened }, good, tt, refl);
+}
 
 prints_within : {d : ℕ} (line : Option (List ℕ)) → Within Any d (Operations.prints_line line)
 prints_within None = never
 prints_within (Some piece) = seq (happens_within _) (λ c a le q. writes_within piece)
 
-got_within : (got : Got) (span : Span) (env : Env) (s : State) → EnvWithin s.turns env → OutWithin Any s.turns (Operations.got got span env s)
-got_within (L.Gives n left) span env s good = (itself s.turns, good, tt)
-got_within (L.Fails left) span env s good = tt
-got_within L.Wants span env s good = tt
+input_left : (left : List ℕ) (s : State) → Comes s (Operations.with_input left s)
+input_left left s = record { more = []; output = sym (append-nil s.output); turns = itself s.turns; opened = itself s.opened }
+
+got_within : (got : Got) (span : Span) (env : Env) (s : State) → EnvWithin s.turns env
+    → OutWithin Any s (Operations.got got span env s) (Operations.got got span env (free s))
+got_within (L.Gives n left) span env s good = (input_left left s, good, tt, refl)
+got_within (L.Fails left) span env s good = (tt, input_left left s, refl)
+got_within L.Wants span env s good = (tt, stays s, refl)
 
 line_within : {d : ℕ} (span : Span) → Within Any d (Operations.takes_line span)
 line_within span = record { holds = λ env s le good. got_within (read_line s.cut s.input) span env s good }
