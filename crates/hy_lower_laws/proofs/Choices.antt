@@ -36,7 +36,7 @@ linked_work y c s x w k = record { going = k.going; stop = k.stop; core = k.core
 
 module _ (o : Object) (y : Body) (is : IsBody y) (p : Setting) (c : Control) (s : memory.Cells) (pc : ℕ) (x : State) (k : Linked y c s x) where
   -- the core stands somewhere else, and so does the machine
-  stands : (w : Work) (q : ℕ) → At y.frame y.object.code q w → Leads o (mach c pc x) (mach c q x)
+  pub stands : (w : Work) (q : ℕ) → At y.frame y.object.code q w → Leads o (mach c pc x) (mach c q x)
       → Follows o y (interpret lending (Return (with_work c w)) s) (mach c pc x)
   stands w q at l = goes_on q x (linked_work y c s x w k) at l
 
@@ -47,7 +47,7 @@ module _ (o : Object) (y : Body) (is : IsBody y) (p : Setting) (c : Control) (s 
       (goes_from y.object.code (pc + 0) pc r.end e r.goes) r.next (leads_none o (mach c pc x))
 
   -- a jump that goes forward
-  hops : (q : ℕ) → nth y.object.code pc ≡ Some (instr.Jump q) → pc < q → Leads o (mach c pc x) (mach c q x)
+  pub hops : (q : ℕ) → nth y.object.code pc ≡ Some (instr.Jump q) → pc < q → Leads o (mach c pc x) (mach c q x)
   hops q h l = one o y is c s pc x k (mach c q x) (instr.Jump q) h
       (ap (λ b. cond b (mach c q x) (take_turn (mach c pc x) (λ t. goes_to t q))) (lt-ltb pc q l))
 
@@ -86,15 +86,15 @@ module _ (o : Object) (y : Body) (is : IsBody y) (p : Setting) (c : Control) (s 
 
   -- TESTS
 
-  fits : y.frame.scratch + 1 ≤ y.object.words
+  pub fits : y.frame.scratch + 1 ≤ y.object.words
   fits = let f = is.scratch in omega arith
 
   -- the test of a local in words
-  test_is : (on w : ℕ) → IsWord y.frame on w → test y.frame on ≡ instr.Copy (own y.frame.scratch) (own w) 1 ∷ []
+  pub test_is : (on w : ℕ) → IsWord y.frame on w → test y.frame on ≡ instr.Copy (own y.frame.scratch) (own w) 1 ∷ []
   test_is on w word = ap (λ h. instr.Copy (own y.frame.scratch) (place_at h) 1 ∷ []) word.home
 
   -- where the first scratch word has a truth value
-  unless_at : (b : Bool) (q : ℕ) → x.cells x.now.frame y.frame.scratch ≡ Word (truth b) → nth y.object.code pc ≡ Some (instr.JumpUnless y.frame.scratch q) → pc < q
+  pub unless_at : (b : Bool) (q : ℕ) → x.cells x.now.frame y.frame.scratch ≡ Word (truth b) → nth y.object.code pc ≡ Some (instr.JumpUnless y.frame.scratch q) → pc < q
       → Leads o (mach c pc x) (mach c (if b then suc pc else q) x)
   unless_at b q d h l = by b d
     where
@@ -109,7 +109,7 @@ module _ (o : Object) (y : Body) (is : IsBody y) (p : Setting) (c : Control) (s 
           (read false d ∙ ap (λ b. cond b (mach c q x) (take_turn (mach c pc x) (λ t. goes_to t q))) (lt-ltb pc q l))
 
   -- a jump back takes a turn
-  back_at : (b : Bool) (q : ℕ) → x.cells x.now.frame y.frame.scratch ≡ Word (truth b) → nth y.object.code pc ≡ Some (instr.JumpIf y.frame.scratch q) → q ≤ pc
+  pub back_at : (b : Bool) (q : ℕ) → x.cells x.now.frame y.frame.scratch ≡ Word (truth b) → nth y.object.code pc ≡ Some (instr.JumpIf y.frame.scratch q) → q ≤ pc
       → Leads o (mach c pc x) (if b then turn_of (mach c pc x) c.turns (λ t. goes_to t q) else mach c (suc pc) x)
   back_at b q d h l = by b d
     where

@@ -6,3 +6,4 @@ pub mod WordSteps
 pub mod Scalars
 pub mod Calculations
 pub mod Choices
+pub mod Branches

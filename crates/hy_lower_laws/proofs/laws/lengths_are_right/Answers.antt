@@ -1,6 +1,6 @@
 use Rattle.hy_lower_laws.proofs.Lengths.{one_is, all_are}
 use Rattle.hy_lower_laws.proofs.Calculations.{arithmetic_follows}
-use Rattle.hy_lower_laws.proofs.Choices.{while_follows}
+use Rattle.hy_lower_laws.proofs.Branches.{if_follows}
 use Rattle.hy_lower_laws.proofs.laws.lengths_are_right.Goals as goal
 
 pub returns : goal.returns
