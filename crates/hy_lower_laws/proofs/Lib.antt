@@ -7,3 +7,4 @@ pub mod Scalars
 pub mod Calculations
 pub mod Choices
 pub mod Branches
+pub mod Forms
