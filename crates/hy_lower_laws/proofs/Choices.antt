@@ -22,7 +22,7 @@ use Rattle.hy_lower.specs.Frames.{home_of}
 use Rattle.hy_lower.specs.Places.{own, place_at}
 use Rattle.hy_lower.specs.Segments.{test}
 use Rattle.hy_lower.specs.Code.{length_all, length_of}
-use Rattle.hy_lower_laws.proofs.Stands.{Goes, HasAt, At, Inside, RestAt, LoopAt, StmtAt, goes_from, choice_test, first_part, second_part, loop_jump, loop_at}
+use Rattle.hy_lower_laws.proofs.Stands.{Goes, HasAt, At, Inside, LoopAt, StmtAt, goes_from, choice_test, first_part, second_part, loop_jump, loop_at}
 use Rattle.hy_lower_laws.proofs.Stands.{head_at, pass_at, break_at, continue_at}
 use Rattle.hy_lower_laws.proofs.OwnWords.{read_is}
 use Rattle.hy_lower_laws.proofs.Simulates.{Body, IsBody, IsWord, Linked, Over, mach, plain_of, Leads, leads_on, leads_none, Follows, goes_on, over, wrong, stuck, not_set}

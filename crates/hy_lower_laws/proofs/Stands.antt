@@ -9,12 +9,9 @@ use Rattle.hy_object.specs.States.{nth}
 use Rattle.hy_lower.specs.Frames.{Frame}
 use Rattle.hy_lower.specs.Segments.{test}
 use Rattle.hy_lower.specs.Code.{code_all, code_of, length_all, length_of}
+pub use Rattle.hy_lower_laws.specs.Standing.{HasAt, Hops, Goes}
+use Rattle.hy_lower_laws.specs.Standing as standing
 use Rattle.hy_lower_laws.proofs.Lengths.{all_are, one_is}
-
--- these instructions stand at a place
-abbrev pub HasAt : List Instr → ℕ → List Instr → Type 0
-HasAt code pc [] = Unit {0}
-HasAt code pc (i ∷ is) = (nth code pc ≡ Some i) × HasAt code (suc pc) is
 
 pub has_front : (code : List Instr) (pc : ℕ) (xs ys : List Instr) → HasAt code pc (xs ++ ys) → HasAt code pc xs
 has_front code pc [] ys h = tt
@@ -28,15 +25,6 @@ has_back code pc (suc n) (x ∷ xs) ys e h =
     let q : suc pc + n ≡ pc + suc n = omega arith in
     subst (λ k. HasAt code k ys) q (has_back code (suc pc) n xs ys f h.1)
 
--- so many jumps, each to a place further on
-abbrev pub Hops : List Instr → ℕ → ℕ → ℕ → Type 0
-Hops code zero pc t = pc ≡ t
-Hops code (suc n) pc t = (q : ℕ) × (nth code pc ≡ Some (instr.Jump q)) × (pc < q) × Hops code n q t
-
-pub record Goes (code : List Instr) (pc t : ℕ) : Type 0 where
-  pub count : ℕ
-  pub hops : Hops code count pc t
-
 pub stay : (code : List Instr) (pc t : ℕ) → pc ≡ t → Goes code pc t
 stay code pc t e = record { count = zero; hops = e }
 
@@ -47,49 +35,17 @@ pub goes_from : (code : List Instr) (pc q t : ℕ) → pc ≡ q → Goes code pc
 goes_from code pc q t e g = subst (λ n. Goes code n t) e g
 
 module _ (b : Frame) (code : List Instr) where
-  -- Statements stand at a place: where the innermost loop goes on is known up to the place after them, and the machine goes on
-  -- from there to what follows.
-  pub record RestAt (pc : ℕ) (ss : Stmts) (Inside : (upto after again : ℕ) → Type 0) (Next : ℕ → Type 0) : Type 0 where
-    pub after : ℕ
-    pub again : ℕ
-    pub has : HasAt code pc (code_all b pc after again ss)
-    pub inside : Inside (pc + length_all b ss) after again
-    pub end : ℕ
-    pub goes : Goes code (pc + length_all b ss) end
-    pub next : Next end
+  abbrev pub At : ℕ → Work → Type 0
+  At pc w = standing.At b code pc w
 
-  -- A loop whose head stands at a place, and which ends at another: the body before the head, and the test after it.
-  pub record LoopAt (pc after : ℕ) (head : Stmts) (on : ℕ) (body : Stmts) (Inside : (upto after again : ℕ) → Type 0) (Next : ℕ → Type 0) : Type 0 where
-    pub first : ℕ
-    pub before : first + length_all b body ≡ pc
-    pub has_body : HasAt code first (code_all b first after pc body)
-    pub out : ℕ
-    pub over : ℕ
-    pub has_head : HasAt code pc (code_all b pc out over head)
-    pub inside : Inside (pc + length_all b head) out over
-    pub has_test : HasAt code (pc + length_all b head) (test b on ++ instr.JumpIf b.scratch first ∷ [])
-    pub is_after : pc + length_all b head + 2 ≡ after
-    pub end : ℕ
-    pub goes : Goes code after end
-    pub next : Next end
+  abbrev pub Inside : (upto after again : ℕ) → Work → Type 0
+  Inside upto after again w = standing.Inside b code upto after again w
 
-  -- what is left of a body stands as code from a place on; and where the innermost loop around it goes on, from places before one
-  abbrev mutual
-    pub At : ℕ → Work → Type 0
-    At pc Idle = Unit {0}
-    At pc (Rest ss w) = RestAt pc ss (λ upto after again. Inside upto after again w) (λ t. At t w)
-    At pc (Loop head on body w) = (after : ℕ) × LoopAt pc after head on body (λ upto after again. Inside upto after again w) (λ t. At t w)
-    At pc (Test head on body w) =
-        (start after : ℕ) × (start + length_all b head ≡ pc) × LoopAt start after head on body (λ upto after again. Inside upto after again w) (λ t. At t w)
-    At pc (Drops ts w) = ⊥
+  abbrev pub LoopAt : (pc after : ℕ) (head : Stmts) (on : ℕ) (body : Stmts) (Inside : (upto after again : ℕ) → Type 0) (Next : ℕ → Type 0) → Type 0
+  LoopAt pc after head on body Inside Next = standing.LoopAt b code pc after head on body Inside Next
 
-    pub Inside : (upto after again : ℕ) → Work → Type 0
-    Inside upto after again Idle = Unit {0}
-    Inside upto after again (Rest ss w) = Inside upto after again w
-    Inside upto after again (Loop head on body w) =
-        (upto ≤ again) × LoopAt again after head on body (λ upto after again. Inside upto after again w) (λ t. At t w)
-    Inside upto after again (Test head on body w) = Unit {0}
-    Inside upto after again (Drops ts w) = Unit {0}
+  abbrev pub StmtAt : ℕ → Stmt → Work → Type 0
+  StmtAt pc s w = standing.StmtAt b code pc s w
 
   pub inside_less : (upto least after again : ℕ) (w : Work) → least ≤ upto → Inside upto after again w → Inside least after again w
   inside_less upto least after again Idle l h = tt
@@ -97,14 +53,6 @@ module _ (b : Frame) (code : List Instr) where
   inside_less upto least after again (Loop head on body w) l h = let q = h.0 in (omega arith, h.1)
   inside_less upto least after again (Test head on body w) l h = tt
   inside_less upto least after again (Drops ts w) l h = tt
-
-  -- a statement stands at a place, and what follows after it
-  pub record StmtAt (pc : ℕ) (s : Stmt) (w : Work) : Type 0 where
-    pub after : ℕ
-    pub again : ℕ
-    pub has : HasAt code pc (code_of b pc after again s)
-    pub inside : Inside (pc + length_of b s) after again w
-    pub next : At (pc + length_of b s) w
 
   pub first_at : (pc : ℕ) (s : Stmt) (ss : Stmts) (w : Work) → At pc (Rest (Then s ss) w) → StmtAt pc s (Rest ss w)
   first_at pc s ss w r =
