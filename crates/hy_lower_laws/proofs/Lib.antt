@@ -8,3 +8,4 @@ pub mod Calculations
 pub mod Choices
 pub mod Branches
 pub mod Forms
+pub mod Following

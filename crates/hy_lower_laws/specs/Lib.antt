@@ -1,3 +1,4 @@
 pub mod Lengths
 pub mod Standing
 pub mod Following
+pub mod WordSteps

@@ -1,7 +1,14 @@
 // Laws of lowered code, each the contract of a function that does nothing.
 ghost use Rattle.hy_lower_laws.specs.Lengths.{LengthsAreRight};
+ghost use Rattle.hy_lower_laws.specs.WordSteps.{WordStepsFollow};
 
 /// The segment of each statement has the length by which the jumps of a body are placed.
 pub fn lengths_are_right()
     ensures { LengthsAreRight }
+{}
+
+/// The machine follows the core through statements on whole locals of one word: constants, sums, differences, products, orders,
+/// prints, choices and loops.
+pub fn word_steps_follow()
+    ensures { WordStepsFollow }
 {}

@@ -3,4 +3,4 @@
 
 mod laws;
 
-pub use laws::lengths_are_right;
+pub use laws::{lengths_are_right, word_steps_follow};

@@ -1,7 +1,4 @@
 use Rattle.hy_lower_laws.proofs.Lengths.{one_is, all_are}
-use Rattle.hy_lower_laws.proofs.Calculations.{arithmetic_follows}
-use Rattle.hy_lower_laws.proofs.Branches.{if_follows}
-use Rattle.hy_lower_laws.proofs.Forms.{set_follows}
 use Rattle.hy_lower_laws.proofs.laws.lengths_are_right.Goals as goal
 
 pub returns : goal.returns
