@@ -93,6 +93,10 @@ module _ (o : Object) (y : Body) (is : IsBody y) (p : Setting) (c : Control) (s 
         own = k1.own;
         holds = k1.holds;
         turns = omega arith;
+        core_alone = k1.core_alone;
+        alone = k1.alone;
+        role = k1.role;
+        slots = k1.slots;
       }) at l
 
   pub test_follows : (on w : ℕ) (head body : Stmts) (v : Work) → IsWord y.frame on w → At y.frame y.object.code pc (Test head on body v)

@@ -32,7 +32,7 @@ use Rattle.hy_lower_laws.proofs.Scalars.{Scalar, number, flag, fetches}
 
 -- another control of the same activation
 pub linked_work : (y : Body) (c : Control) (s : memory.Cells) (x : State) (w : Work) → Linked y c s x → Linked y (with_work c w) s x
-linked_work y c s x w k = record { going = k.going; stop = k.stop; core = k.core; object = k.object; closed = k.closed; own = k.own; holds = k.holds; turns = k.turns }
+linked_work y c s x w k = record { going = k.going; stop = k.stop; core = k.core; object = k.object; closed = k.closed; own = k.own; holds = k.holds; turns = k.turns; core_alone = k.core_alone; alone = k.alone; role = k.role; slots = k.slots }
 
 module _ (o : Object) (y : Body) (is : IsBody y) (p : Setting) (c : Control) (s : memory.Cells) (pc : ℕ) (x : State) (k : Linked y c s x) where
   -- the core stands somewhere else, and so does the machine

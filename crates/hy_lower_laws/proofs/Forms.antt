@@ -133,7 +133,7 @@ module _ (o : Object) (y : Body) (is : IsBody y) (p : Setting) (same : SameSpans
           (owned o y is c s (suc pc) x1 k1 y.frame.scratch scratch_fits) r.puts.here) in
       subst (λ l. Follows o y (interpret lending (prints c l) s) (mach c (suc pc) x1)) (sym (line_is f v n scalar))
       (goes_on (suc (suc pc)) x1
-      (record { going = k1.going; stop = k1.stop; core = k1.core; object = k1.object; closed = k1.closed; own = k1.own; holds = k1.holds; turns = k1.turns })
+      (record { going = k1.going; stop = k1.stop; core = k1.core; object = k1.object; closed = k1.closed; own = k1.own; holds = k1.holds; turns = k1.turns; core_alone = k1.core_alone; alone = k1.alone; role = k1.role; slots = k1.slots })
       at lead))
 
   -- COMPARISONS

@@ -9,3 +9,4 @@ pub mod Choices
 pub mod Branches
 pub mod Forms
 pub mod Following
+pub mod Nothing

@@ -47,13 +47,13 @@ module _ (m : State) (plain : IsPlain m) where
   may_read_is : (x : Reach) → may_read m x ≡ true
   may_read_is x = all_true m.counts.opened _ (λ name. ap (λ o. lets_read o name x) (plain.closed name))
 
-  may_write_is : (w k : ℕ) → may_write m (checks.own m w k) ≡ true
+  pub may_write_is : (w k : ℕ) → may_write m (checks.own m w k) ≡ true
   may_write_is w k = all_true m.counts.opened _ (λ name. ap (λ o. lets_write o name (checks.own m w k)) (plain.closed name))
 
   pub nameless_is : (w k : ℕ) → is_nameless m (checks.own m w k).range ≡ true
   nameless_is w k = all_true k _ (λ i. ap not (plain.nameless (w + i)))
 
-  own_is : (w k : ℕ) (go : Reach → State) → w + k ≤ m.now.fun.words → own_words m w k go ≡ go (checks.own m w k)
+  pub own_is : (w k : ℕ) (go : Reach → State) → w + k ≤ m.now.fun.words → own_words m w k go ≡ go (checks.own m w k)
   own_is w k go l = ap (λ b. check m kind.Range b (go (checks.own m w k))) (le-leb (w + k) m.now.fun.words l)
 
   pub read_is : (w : ℕ) (n : ℤ) (go : ℤ → State) → IsOwn m w → m.cells m.now.frame w ≡ Word n → read_word m w go ≡ go n

@@ -170,5 +170,5 @@ module _ (o : Object) (y : Body) (is : IsBody y) (c : Control) (s : memory.Cells
       let t : memory.Cells = record { refers = s.refers; cell = set_at s.cell (key c l) v } in
       subst (λ r. Follows o y r (mach c pc x)) (sym (write_is p l w word v Return))
       (goes_on (suc pc) (record x { cells = r.cells })
-      (record { going = k.going; stop = k.stop; core = k.core; object = k.object; closed = k.closed; own = k.own; holds = stored l w word v n scalar d r.cells r.shifts; turns = k.turns })
+      (record { going = k.going; stop = k.stop; core = k.core; object = k.object; closed = k.closed; own = k.own; holds = stored l w word v n scalar d r.cells r.shifts; turns = k.turns; core_alone = k.core_alone; alone = k.alone; role = k.role; slots = k.slots })
       at r.leads)

@@ -116,7 +116,7 @@ module _ (o : Object) (y : Body) (is : IsBody y) (c : Control) (s : memory.Cells
 
   -- other cells, which hold the same of the locals
   pub linked_with : (new : Cells) → Holds y c.now.id x.now.frame s new → Linked y c s (record x { cells = new })
-  linked_with new h = record { going = k.going; stop = k.stop; core = k.core; object = k.object; closed = k.closed; own = k.own; holds = h; turns = k.turns }
+  linked_with new h = record { going = k.going; stop = k.stop; core = k.core; object = k.object; closed = k.closed; own = k.own; holds = h; turns = k.turns; core_alone = k.core_alone; alone = k.alone; role = k.role; slots = k.slots }
 
   pub nameless_put : (new : Cells) (w : ℕ) (d : Cell) → Puts x.cells new x.now.frame w d → is_name d ≡ false → (block at : ℕ) → is_name (new block at) ≡ false
   nameless_put new w d p e block at =

@@ -1,5 +1,5 @@
 -- The machine follows the core: its state is built from the core's and from what it has besides.
-use Rattle.std.specs.Prelude.{◌≡◌, ℕ, ◌+◌, ◌<◌, ◌≤◌, Bool, true, false, Option, Some, None, ℤ, slice_get}
+use Rattle.std.specs.Prelude.{◌≡◌, ℕ, ◌+◌, ◌<◌, ◌≤◌, Bool, true, false, List, [], Option, Some, None, ℤ, slice_get}
 use Rattle.hy_base.specs.declared.numbers.IntegerType.TheVariants.{Int, Sized}
 use Rattle.hy_base.specs.declared.run.End.{End}
 use Rattle.hy_types.specs.declared.kinds.TyId.{TyId}
@@ -13,7 +13,7 @@ use Rattle.hy_core.specs.Control as core
 use Rattle.hy_object.specs.declared.object.Fun as object
 use Rattle.hy_object.specs.declared.object.Object.{Object}
 use Rattle.hy_object.specs.Checks.{is_name}
-use Rattle.hy_object.specs.States.{Cell, Word, State, Ended}
+use Rattle.hy_object.specs.States.{Cell, Word, State, Ended, Called, Empty}
 use Rattle.hy_object.specs.Words.{truth}
 use Rattle.hy_object.specs.Steps.{steps}
 use Rattle.hy_lower.specs.declared.body.Home.TheVariants.{Words}
@@ -57,6 +57,13 @@ pub record IsWord (b : Frame) (l w : ℕ) : Type 0 where
   pub size : size_of b.sizes type ≡ 1
   pub home : home_of b l ≡ Words w
 
+-- a local that takes no words, and where its words would be
+pub record IsNothing (b : Frame) (l w : ℕ) : Type 0 where
+  pub type : TyId
+  pub typed : slice_get b.locals l ≡ Some type
+  pub size : size_of b.sizes type ≡ 0
+  pub home : home_of b l ≡ Words w
+
 -- of the body whose code is followed: its frame, its functions, and how many turns the run has
 pub record Body : Type 0 where
   pub frame : Frame
@@ -70,6 +77,8 @@ pub record IsBody (y : Body) : Type 0 where
   pub below : (l w : ℕ) → IsWord y.frame l w → w < y.frame.scratch
   pub apart : (l k w : ℕ) → IsWord y.frame l w → IsWord y.frame k w → l ≡ k
   pub scratch : y.frame.scratch + 2 ≤ y.object.words
+  pub lent : y.core.lent ≡ []
+  pub result : y.object.result ≡ 0
 
 abbrev pub Cells : Type 0
 Cells = ℕ → ℕ → Cell
@@ -88,6 +97,11 @@ pub record Linked (y : Body) (c : Control) (s : memory.Cells) (x : State) : Type
   pub own : (k : memory.Key) → s.refers k ≡ None
   pub holds : Holds y c.now.id x.now.frame s x.cells
   pub turns : x.counts.turns + c.turns ≡ y.turns
+  -- it is `main`, and no other body waits for it
+  pub core_alone : c.callers ≡ []
+  pub alone : x.callers ≡ []
+  pub role : x.now.role ≡ Called 0
+  pub slots : (slot : ℕ) → x.slots x.now.frame slot ≡ Empty
 
 -- both runs are over, in one way
 pub record Over (y : Body) (c : Control) (m : State) : Type 0 where
