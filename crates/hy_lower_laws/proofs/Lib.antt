@@ -10,3 +10,4 @@ pub mod Branches
 pub mod Forms
 pub mod Following
 pub mod Nothing
+pub mod Leaving

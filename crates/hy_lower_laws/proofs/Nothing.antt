@@ -55,7 +55,7 @@ move_none m plain to from l k =
     apart : meets (checks.own m to 0).range (checks.own m from 0).range ≡ false
     apart = grind arith
 
-none_moves : (cells : Cells) (b f t block at : ℕ) → moved cells (record { block = b; from = f; words = 0 }) (record { block = b; from = t; words = 0 }) block at ≡ cells block at
+pub none_moves : (cells : Cells) (b f t block at : ℕ) → moved cells (record { block = b; from = f; words = 0 }) (record { block = b; from = t; words = 0 }) block at ≡ cells block at
 none_moves cells b f t block at =
     let y : Range = record { block = b; from = f; words = 0 } in
     let x : Range = record { block = b; from = t; words = 0 } in
@@ -63,7 +63,7 @@ none_moves cells b f t block at =
     (λ _. at_cells cells x (window cells y) block at (λ d. d ≡ cells block at) (λ _ a l. absurd (omega arith)) (λ _. refl))
 
 module _ (o : Object) (y : Body) (is : IsBody y) (p : Setting) (c : Control) (s : memory.Cells) (pc : ℕ) (x : State) (k : Linked y c s x) where
-  typed : (l w : ℕ) (none : IsNothing y.frame l w) → local_type c.now.fun l ≡ Some none.type
+  pub typed : (l w : ℕ) (none : IsNothing y.frame l w) → local_type c.now.fun l ≡ Some none.type
   typed l w none = ap (λ f. local_type f l) k.core ∙ sym (is.locals l) ∙ none.typed
 
   -- other values of locals without words
