@@ -5,29 +5,31 @@ use Rattle.hy_base.specs.declared.numbers.IntegerType.TheVariants.{Int}
 use Rattle.hy_base.specs.declared.numbers.Operation.TheVariants as operation
 use Rattle.hy_core.specs.Plain as plain
 use Rattle.hy_core.specs.Plain.{Place, Stmts, Done, Then, Stmt, Built, Set, If, While, Break, Continue, Add, Sub, Mul, Lt, Le, Print}
-use Rattle.hy_core.specs.Values.{Val, Number, Truth}
+use Rattle.hy_core.specs.Values.{Val, Number, Truth, Tuple, Product, No}
 use Rattle.hy_core.specs.Memory.{lending}
 use Rattle.hy_core.specs.Memory as memory
 use Rattle.hy_core.specs.Operators.{operated, ordered}
 use Rattle.hy_core.specs.Runs.{interpret}
-use Rattle.hy_core.specs.Control.{Control, Setting, Work, Idle, Rest, Loop, Test, Drops, with_work, Form, Numbers, Flags, form}
+use Rattle.hy_core.specs.Control.{Control, Setting, Work, Idle, Rest, Loop, Test, Drops, with_work, Form, Numbers, Flags, Tuples, Products, form}
 use Rattle.hy_core.specs.Statements.{does, goes_on, interaction, interaction_of, constant}
 use Rattle.hy_object.specs.declared.instr.Instr.TheVariants as instr
 use Rattle.hy_object.specs.declared.object.Object.{Object}
 use Rattle.hy_object.specs.States.{State}
 use Rattle.hy_object.specs.Words.{fitting, truth}
 use Rattle.hy_lower.specs.Frames.{Frame}
-use Rattle.hy_lower.specs.Places.{own, form_at, size_at}
+use Rattle.hy_lower.specs.Places.{own, place_at, form_at, size_at}
 use Rattle.hy_lower.specs.Segments as segment
 use Rattle.hy_lower.specs.Segments.{shown_as}
 use Rattle.hy_lower.specs.Code.{constant_length}
-use Rattle.hy_lower_laws.specs.WordSteps.{TwoWords, OneWord, One, IsConstant, IsWordBuilt, IsWordStmt, IsWordWork, WordStepsFollow, SameSpans, whole_local}
+use Rattle.hy_lower_laws.specs.WordSteps.{TwoWords, OneWord, NoWords, HasNoParts, One, IsConstant, IsWordBuilt, IsWordStmt, IsWordWork, WordStepsFollow, SameSpans, whole_local}
 use Rattle.hy_lower_laws.proofs.Stands.{HasAt, At, StmtAt, first_at}
 use Rattle.hy_lower_laws.proofs.Simulates.{Body, IsBody, IsWord, Linked, mach, Follows}
 use Rattle.hy_lower_laws.proofs.Scalars.{Scalar, number, flag}
 use Rattle.hy_lower_laws.proofs.Calculations.{arithmetic_follows, add_gives, sub_gives, mul_gives}
 use Rattle.hy_lower_laws.proofs.Choices.{linked_work, done_follows, while_follows, loop_follows, break_follows, continue_follows}
 use Rattle.hy_lower_laws.proofs.Branches.{if_follows, test_follows}
+use Rattle.hy_lower_laws.proofs.Nothing.{nothing_set}
+use Rattle.hy_lower_laws.proofs.Leaving.{leave_follows}
 use Rattle.hy_lower_laws.proofs.Forms.{read_words, write_words, two_words, set_follows, print_follows, compare_follows, ordered_gives}
 
 module _ (o : Object) (y : Body) (is : IsBody y) (p : Setting) (same : SameSpans o p) (tables : p.core.types ≡ y.frame.types)
@@ -105,7 +107,7 @@ module _ (o : Object) (y : Body) (is : IsBody y) (p : Setting) (same : SameSpans
       print_follows o y is p same tables c s pc x k w.local w.word w.is_word (subst (HasAt y.object.code pc) shows at.has)
       (subst (λ n. At y.frame y.object.code n c.now.work) two at.next)))
 
-  set_comes : (q : Place) (n : ℤ) → IsWordStmt y.frame (Set q n) → Comes (Set q n)
+  set_comes : (q : Place) (n : ℤ) → (w : OneWord y.frame q) × IsConstant (form y.frame.types w.is_word.type) n → Comes (Set q n)
   set_comes q n (w, h) = subst (λ q. Comes (Set q n)) (sym w.is_place) (λ at.
       let S = y.frame.scratch in
       let t = w.is_word.type in
@@ -125,6 +127,35 @@ module _ (o : Object) (y : Body) (is : IsBody y) (p : Setting) (same : SameSpans
       (λ z. set_follows o y is p same tables c s pc x k w.local w.word w.is_word n (Truth true)
       (ap (λ f. constant f n) (forms Flags e.0) ∙ ap (constant Flags) z) (flag true e.0 refl z) has next)
       e.1) h)
+
+  nothing_comes : (q : Place) (n : ℤ) → (w : NoWords y.frame q) × HasNoParts (form y.frame.types w.is_nothing.type) → Comes (Set q n)
+  nothing_comes q n (w, h) = subst (λ q. Comes (Set q n)) (sym w.is_place) (λ at.
+      let S = y.frame.scratch in
+      let z = w.is_nothing in
+      let size = ap (size_at y.frame) z.typed ∙ z.size in
+      let stands : segment.set y.frame (whole_local w.local) n ≡ instr.Move (own w.word) (own S) 0 ∷ [] = λ j.
+          segment.constant y.frame (size j) n ++ (instr.Move (place_at (z.home j)) (own S) (size j) ∷ []) in
+      let long : pc + (constant_length (size_at y.frame (slice_get y.frame.locals w.local)) + 1) ≡ suc pc = ap (λ n. pc + (constant_length n + 1)) size ∙ omega arith in
+      let has = subst (HasAt y.object.code pc) stands at.has in
+      let next = subst (λ n. At y.frame y.object.code n c.now.work) long at.next in
+      let below = is.nothing w.local w.word z in
+      let f = is.scratch in
+      let forms = λ (f : Form) (e : form y.frame.types z.type ≡ f). ap (λ t. constant t n) (ap (λ types. form types z.type) tables ∙ e) in
+      ⊎_elim
+      (λ e. nothing_set o y is p c s pc x k w.local w.word z n (Tuple No) (forms (Tuples []) e) (omega arith) has.0 next)
+      (λ e. nothing_set o y is p c s pc x k w.local w.word z n (Product e.0 No) (forms (Products e.0 []) e.1) (omega arith) has.0 next)
+      h)
+
+  leave_comes : (q : Place) → NoWords y.frame q → Comes (plain.Leave q)
+  leave_comes q w = subst (λ q. Comes (plain.Leave q)) (sym w.is_place) (λ at.
+      let S = y.frame.scratch in
+      let z = w.is_nothing in
+      let size = ap (size_at y.frame) z.typed ∙ z.size in
+      let stands : segment.leave y.frame (whole_local w.local) ≡ instr.Move (own S) (own w.word) 0 ∷ instr.Return S ∷ [] = λ j.
+          (instr.Move (own S) (place_at (z.home j)) (size j) ∷ []) ++ instr.Return S ∷ [] in
+      let below = is.nothing w.local w.word z in
+      let f = is.scratch in
+      leave_follows o y is p c s pc x k w.local w.word z (omega arith) (subst (HasAt y.object.code pc) stands at.has))
 
   built_comes : (t : plain.Operator) (to : Option Place) (from : List Place) (spans : List ℕ) → IsWordBuilt y.frame t to from spans → Comes (Built t to from spans)
   built_comes Add to from spans h = add_comes to from spans h
@@ -150,7 +181,7 @@ module _ (o : Object) (y : Body) (is : IsBody y) (p : Setting) (same : SameSpans
 
   pub statement_comes : (t : Stmt) → IsWordStmt y.frame t → Comes t
   statement_comes (Built t to from spans) h = built_comes t to from spans h
-  statement_comes (Set q n) h = set_comes q n h
+  statement_comes (Set q n) h = ⊎_elim (λ w. set_comes q n w) (λ w. nothing_comes q n w) h
   statement_comes (plain.Lend to q w) h = absurd h
   statement_comes (plain.Close l) h = absurd h
   statement_comes (plain.Move to from) h = absurd h
@@ -164,7 +195,7 @@ module _ (o : Object) (y : Body) (is : IsBody y) (p : Setting) (same : SameSpans
   statement_comes (While head on body) h = while_follows o y is p c s pc x k on head body
   statement_comes Break h = break_follows o y is p c s pc x k
   statement_comes Continue h = continue_follows o y is p c s pc x k
-  statement_comes (plain.Leave from) h = absurd h
+  statement_comes (plain.Leave from) h = leave_comes from h
 
 work_comes : (o : Object) (y : Body) (is : IsBody y) (p : Setting) (same : SameSpans o p) (tables : p.core.types ≡ y.frame.types)
     (c : Control) (s : memory.Cells) (pc : ℕ) (x : State) (k : Linked y c s x) (w : Work) → At y.frame y.object.code pc w → IsWordWork y.frame w

@@ -8,6 +8,6 @@ pub mod Calculations
 pub mod Choices
 pub mod Branches
 pub mod Forms
-pub mod Following
 pub mod Nothing
 pub mod Leaving
+pub mod Following

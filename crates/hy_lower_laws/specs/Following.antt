@@ -75,6 +75,7 @@ pub record Body : Type 0 where
 pub record IsBody (y : Body) : Type 0 where
   pub locals : (l : ℕ) → slice_get y.frame.locals l ≡ core.local_type y.core l
   pub below : (l w : ℕ) → IsWord y.frame l w → w < y.frame.scratch
+  pub nothing : (l w : ℕ) → IsNothing y.frame l w → w ≤ y.frame.scratch
   pub apart : (l k w : ℕ) → IsWord y.frame l w → IsWord y.frame k w → l ≡ k
   pub scratch : y.frame.scratch + 2 ≤ y.object.words
   pub lent : y.core.lent ≡ []

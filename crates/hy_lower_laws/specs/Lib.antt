@@ -2,3 +2,4 @@ pub mod Lengths
 pub mod Standing
 pub mod Following
 pub mod WordSteps
+pub mod WordRuns

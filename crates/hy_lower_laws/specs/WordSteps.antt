@@ -1,4 +1,4 @@
--- Statements on whole locals of one word: numbers of type Int and truth values.
+-- Statements on whole locals of one word, numbers of type Int and truth values, and of none.
 use Rattle.std.specs.Prelude.{◌≡◌, ◌⊎◌, ℕ, zero, suc, List, [], ◌∷◌, Option, Some, None, ℤ, pos, slice_get}
 use Rattle.hy_base.specs.declared.numbers.IntegerType.TheVariants.{Int}
 use Rattle.hy_core.specs.Plain.{Place, Operator, Add, Sub, Mul, Div, Rem, Neg, Convert, Eq, Lt, Le, Not, NewArray, Push, Pop, Swap, Count, FreeArray, Print}
@@ -7,13 +7,13 @@ use Rattle.hy_core.specs.Plain.{Continue, Leave}
 use Rattle.hy_core.specs.Memory.{lending}
 use Rattle.hy_core.specs.Memory as memory
 use Rattle.hy_core.specs.Runs.{interpret}
-use Rattle.hy_core.specs.Control.{Control, Setting, Work, Idle, Rest, Loop, Test, Drops, Form, Numbers, Flags, form}
+use Rattle.hy_core.specs.Control.{Control, Setting, Work, Idle, Rest, Loop, Test, Drops, Form, Numbers, Flags, Tuples, Products, form}
 use Rattle.hy_core.specs.Statements.{interaction}
 use Rattle.hy_object.specs.declared.object.Object.{Object}
 use Rattle.hy_object.specs.States.{State, nth}
 use Rattle.hy_lower.specs.Frames.{Frame}
 use Rattle.hy_lower_laws.specs.Standing.{At}
-use Rattle.hy_lower_laws.specs.Following.{Body, IsBody, IsWord, Linked, Follows, mach}
+use Rattle.hy_lower_laws.specs.Following.{Body, IsBody, IsWord, IsNothing, Linked, Follows, mach}
 
 abbrev pub whole_local : ℕ → Place
 whole_local l = record { local = l; steps = [] }
@@ -39,6 +39,17 @@ pub record OneWord (b : Frame) (p : Place) : Type 0 where
   pub word : ℕ
   pub is_word : IsWord b local word
   pub is_place : p ≡ whole_local local
+
+-- the place is a local without words
+pub record NoWords (b : Frame) (p : Place) : Type 0 where
+  pub local : ℕ
+  pub word : ℕ
+  pub is_nothing : IsNothing b local word
+  pub is_place : p ≡ whole_local local
+
+-- a tuple or product without parts
+abbrev pub HasNoParts : Form → Type 0
+HasNoParts f = (f ≡ Tuples []) ⊎ ((d : ℕ) × (f ≡ Products d []))
 
 abbrev pub One : {A : Type 0} → List A → (A → Type 0) → Type 0
 One [] P = ⊥
@@ -74,7 +85,7 @@ IsWordBuilt b Check to from spans = ⊥
 -- a statement of the forms that are followed so far
 abbrev pub IsWordStmt : Frame → Stmt → Type 0
 IsWordStmt b (Built operator to from spans) = IsWordBuilt b operator to from spans
-IsWordStmt b (Set p n) = (w : OneWord b p) × IsConstant (form b.types w.is_word.type) n
+IsWordStmt b (Set p n) = ((w : OneWord b p) × IsConstant (form b.types w.is_word.type) n) ⊎ ((w : NoWords b p) × HasNoParts (form b.types w.is_nothing.type))
 IsWordStmt b (Lend to p w) = ⊥
 IsWordStmt b (Close l) = ⊥
 IsWordStmt b (Move to from) = ⊥
@@ -88,7 +99,7 @@ IsWordStmt b (If on x y) = (w : ℕ) × IsWord b on w
 IsWordStmt b (While head on body) = Unit {0}
 IsWordStmt b Break = Unit {0}
 IsWordStmt b Continue = Unit {0}
-IsWordStmt b (Leave from) = ⊥
+IsWordStmt b (Leave from) = NoWords b from
 
 -- what is left of the body begins with such a statement, or is at the start or the test of a loop
 abbrev pub IsWordWork : Frame → Work → Type 0

@@ -1,5 +1,4 @@
 use Rattle.hy_lower_laws.proofs.Following as following
-use Rattle.hy_lower_laws.proofs.Leaving.{leave_follows}
 use Rattle.hy_lower_laws.proofs.laws.word_steps_follow.Goals as goal
 
 pub returns : goal.returns
