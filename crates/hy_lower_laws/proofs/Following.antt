@@ -10,7 +10,7 @@ use Rattle.hy_core.specs.Memory.{lending}
 use Rattle.hy_core.specs.Memory as memory
 use Rattle.hy_core.specs.Operators.{operated, ordered}
 use Rattle.hy_core.specs.Runs.{interpret}
-use Rattle.hy_core.specs.Control.{Control, Setting, Work, Idle, Rest, Loop, Test, Drops, with_work, Form, Numbers, Flags, Tuples, Products, form}
+use Rattle.hy_core.specs.Control.{Control, GivesUp, Setting, Work, Idle, Rest, Loop, Test, Drops, with_work, Form, Numbers, Flags, Tuples, Products, form}
 use Rattle.hy_core.specs.Statements.{does, goes_on, interaction, interaction_of, constant}
 use Rattle.hy_object.specs.declared.instr.Instr.TheVariants as instr
 use Rattle.hy_object.specs.declared.object.Object.{Object}
@@ -30,9 +30,10 @@ use Rattle.hy_lower_laws.proofs.Choices.{linked_work, done_follows, while_follow
 use Rattle.hy_lower_laws.proofs.Branches.{if_follows, test_follows}
 use Rattle.hy_lower_laws.proofs.Nothing.{nothing_set}
 use Rattle.hy_lower_laws.proofs.Leaving.{leave_follows}
+use Rattle.hy_lower_laws.proofs.Dropping.{word_drop, nothing_drop}
 use Rattle.hy_lower_laws.proofs.Forms.{read_words, write_words, two_words, set_follows, print_follows, compare_follows, ordered_gives}
 
-module _ (o : Object) (y : Body) (is : IsBody y) (p : Setting) (same : SameSpans o p) (tables : p.core.types ≡ y.frame.types)
+module _ (o : Object) (y : Body) (is : IsBody y) (p : Setting) (stage : p.stage ≡ GivesUp) (same : SameSpans o p) (tables : p.core.types ≡ y.frame.types)
     (c : Control) (s : memory.Cells) (pc : ℕ) (x : State) (k : Linked y c s x) where
 
   abbrev Comes : Stmt → Type 0
@@ -186,7 +187,9 @@ module _ (o : Object) (y : Body) (is : IsBody y) (p : Setting) (same : SameSpans
   statement_comes (plain.Close l) h = absurd h
   statement_comes (plain.Move to from) h = absurd h
   statement_comes (plain.Copy to from) h = absurd h
-  statement_comes (plain.Drop q) h = absurd h
+  statement_comes (plain.Drop q) h = ⊎_elim
+      (λ w. subst (λ q. Comes (plain.Drop q)) (sym w.is_place) (word_drop o y is p stage c s pc x k w.local w.word w.is_word))
+      (λ w. subst (λ q. Comes (plain.Drop q)) (sym w.is_place) (nothing_drop o y is p stage c s pc x k w.local w.word w.is_nothing)) h
   statement_comes (plain.Call n lent owned to) h = absurd h
   statement_comes (plain.Project n lent owned to) h = absurd h
   statement_comes (plain.Slide l) h = absurd h
@@ -197,19 +200,19 @@ module _ (o : Object) (y : Body) (is : IsBody y) (p : Setting) (same : SameSpans
   statement_comes Continue h = continue_follows o y is p c s pc x k
   statement_comes (plain.Leave from) h = leave_comes from h
 
-work_comes : (o : Object) (y : Body) (is : IsBody y) (p : Setting) (same : SameSpans o p) (tables : p.core.types ≡ y.frame.types)
+work_comes : (o : Object) (y : Body) (is : IsBody y) (p : Setting) (stage : p.stage ≡ GivesUp) (same : SameSpans o p) (tables : p.core.types ≡ y.frame.types)
     (c : Control) (s : memory.Cells) (pc : ℕ) (x : State) (k : Linked y c s x) (w : Work) → At y.frame y.object.code pc w → IsWordWork y.frame w
     → Follows o y (interpret lending (goes_on p c w) s) (mach c pc x)
-work_comes o y is p same tables c s pc x k Idle at h = absurd h
-work_comes o y is p same tables c s pc x k (Rest Done w) at h = done_follows o y is p c s pc x k w at
-work_comes o y is p same tables c s pc x k (Rest (Then t ss) w) at h =
+work_comes o y is p stage same tables c s pc x k Idle at h = absurd h
+work_comes o y is p stage same tables c s pc x k (Rest Done w) at h = done_follows o y is p c s pc x k w at
+work_comes o y is p stage same tables c s pc x k (Rest (Then t ss) w) at h =
     let c1 = with_work c (Rest ss w) in
-    statement_comes o y is p same tables c1 s pc x (linked_work y c s x (Rest ss w) k) t h (first_at y.frame y.object.code pc t ss w at)
-work_comes o y is p same tables c s pc x k (Loop head on body w) at h = loop_follows o y is p c s pc x k on head body w at
-work_comes o y is p same tables c s pc x k (Test head on body w) at (u, word) = test_follows o y is p c s pc x k on u head body w word at
-work_comes o y is p same tables c s pc x k (Drops ts w) at h = absurd h
+    statement_comes o y is p stage same tables c1 s pc x (linked_work y c s x (Rest ss w) k) t h (first_at y.frame y.object.code pc t ss w at)
+work_comes o y is p stage same tables c s pc x k (Loop head on body w) at h = loop_follows o y is p c s pc x k on head body w at
+work_comes o y is p stage same tables c s pc x k (Test head on body w) at (u, word) = test_follows o y is p c s pc x k on u head body w word at
+work_comes o y is p stage same tables c s pc x k (Drops ts w) at h = absurd h
 
 pub word_steps_follow : WordStepsFollow
-word_steps_follow o y is p same tables c s pc x k at h =
+word_steps_follow o y is p stage same tables c s pc x k at h =
     subst (λ r. Follows o y (interpret lending (interaction_of p c r) s) (mach c pc x)) (sym k.going)
-    (work_comes o y is p same tables c s pc x k c.now.work at h)
+    (work_comes o y is p stage same tables c s pc x k c.now.work at h)

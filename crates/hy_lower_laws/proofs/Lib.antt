@@ -10,4 +10,6 @@ pub mod Branches
 pub mod Forms
 pub mod Nothing
 pub mod Leaving
+pub mod Dropping
 pub mod Following
+pub mod WholeRuns

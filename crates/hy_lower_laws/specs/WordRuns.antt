@@ -2,10 +2,9 @@
 use Rattle.std.specs.Prelude.{◌≡◌, ℕ, List, Some, None, slice_get}
 use Rattle.hy_core.specs.Plain.{Fun, Core}
 use Rattle.hy_core.specs.Memory.{lending, no_cells}
-use Rattle.hy_core.specs.Control.{Control}
+use Rattle.hy_core.specs.Control.{Control, GivesUp}
 use Rattle.hy_core.specs.Meaning.{Run, lent, setting, state}
-use Rattle.hy_core.specs.Shaped.{Shaped}
-use Rattle.hy_core.specs.Flow.{HasFlow}
+use Rattle.hy_core.specs.Ready.{Ready}
 use Rattle.hy_object.specs.declared.object.Object.{Object}
 use Rattle.hy_object.specs.Runs.{after}
 use Rattle.hy_object.specs.States.{nth}
@@ -23,9 +22,9 @@ main_body core sizes f n = record { frame = frame_of core.types sizes f; core = 
 abbrev pub IsWordRun : Run → Frame → Type 0
 IsWordRun r b = (k : ℕ) → let c = (state lending no_cells r k).control in c.halt ≡ None → IsWordWork b c.now.work
 
--- After each number of steps of such a run of a core of the right shape that has a flow, there is a number of instructions after
+-- After each number of steps of such a run of a ready core, there is a number of instructions after
 -- which the object shows the same: output, end, bytes taken, turns and opened places.
 abbrev pub WordRunsAgree : Type 0
-WordRunsAgree = (r : Run) → Shaped r.core → HasFlow r.stage r.core → (object : Object) (sizes : List ℕ) (f : Fun) → slice_get r.core.funs 0 ≡ Some f
+WordRunsAgree = (r : Run) → r.stage ≡ GivesUp → Ready r.core → (object : Object) (sizes : List ℕ) (f : Fun) → slice_get r.core.funs 0 ≡ Some f
     → nth object.funs 0 ≡ Some (fun_of r.core.types sizes f) → SameSpans object (setting r) → IsBody (main_body r.core sizes f r.turns)
     → IsWordRun r (frame_of r.core.types sizes f) → (k : ℕ) → (j : ℕ) × (reported r.input (after object r.input r.cut r.turns j) ≡ lent r k)

@@ -7,7 +7,7 @@ use Rattle.hy_core.specs.Plain.{Continue, Leave}
 use Rattle.hy_core.specs.Memory.{lending}
 use Rattle.hy_core.specs.Memory as memory
 use Rattle.hy_core.specs.Runs.{interpret}
-use Rattle.hy_core.specs.Control.{Control, Setting, Work, Idle, Rest, Loop, Test, Drops, Form, Numbers, Flags, Tuples, Products, form}
+use Rattle.hy_core.specs.Control.{Control, GivesUp, Setting, Work, Idle, Rest, Loop, Test, Drops, Form, Numbers, Flags, Tuples, Products, form}
 use Rattle.hy_core.specs.Statements.{interaction}
 use Rattle.hy_object.specs.declared.object.Object.{Object}
 use Rattle.hy_object.specs.States.{State, nth}
@@ -90,7 +90,7 @@ IsWordStmt b (Lend to p w) = ⊥
 IsWordStmt b (Close l) = ⊥
 IsWordStmt b (Move to from) = ⊥
 IsWordStmt b (Copy to from) = ⊥
-IsWordStmt b (Drop p) = ⊥
+IsWordStmt b (Drop p) = OneWord b p ⊎ NoWords b p
 IsWordStmt b (Call n lent owned to) = ⊥
 IsWordStmt b (Project n lent owned to) = ⊥
 IsWordStmt b (Slide l) = ⊥
@@ -114,9 +114,9 @@ IsWordWork b (Drops ts w) = ⊥
 abbrev pub SameSpans : Object → Setting → Type 0
 SameSpans o p = (i : ℕ) → nth o.spans i ≡ slice_get p.core.spans i
 
--- Where the core does such a statement, the machine comes from the state that is built of the core's to that of the core's next
+-- Where a checked core does such a statement, the machine comes from the state that is built of the core's to that of the core's next
 -- state; or both runs end, in one way; or the core halts as a ready core never does.
 abbrev pub WordStepsFollow : Type 0
-WordStepsFollow = (o : Object) (y : Body) → IsBody y → (p : Setting) → SameSpans o p → p.core.types ≡ y.frame.types
+WordStepsFollow = (o : Object) (y : Body) → IsBody y → (p : Setting) → p.stage ≡ GivesUp → SameSpans o p → p.core.types ≡ y.frame.types
     → (c : Control) (s : memory.Cells) (pc : ℕ) (x : State) → Linked y c s x → At y.frame y.object.code pc c.now.work → IsWordWork y.frame c.now.work
     → Follows o y (interpret lending (interaction p c) s) (mach c pc x)

@@ -3,4 +3,4 @@
 
 mod laws;
 
-pub use laws::{lengths_are_right, word_steps_follow};
+pub use laws::{lengths_are_right, word_runs_agree, word_steps_follow};
