@@ -1,5 +1,6 @@
 -- Types of written types, parts first.
-use Rattle.std.proofs.Common.{◌≡◌, ◌<◌, ◌≤◌, ◌+◌, ℕ, suc, List, [], ◌∷◌, ◌++◌, length, get_or, take, drop, map, flat_map, refl, sym, ap, subst, ◌∙◌, arith, drop-cons}
+use Rattle.std.proofs.Common.{◌≡◌, ◌<◌, ◌≤◌, ◌+◌, ℕ, suc, List, [], ◌∷◌, ◌++◌, length, get_or, take, drop, map, flat_map, refl, sym, ap, subst, ◌∙◌}
+use Rattle.std.proofs.Common.{arith, drop-cons}
 use Rattle.std.proofs.lemmas.List.{drop_all}
 use Rattle.hy_base.specs.First.{Refusal}
 use Rattle.hy_tree.specs.Denotes.{type_of, types_of}

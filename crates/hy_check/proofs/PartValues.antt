@@ -1,5 +1,6 @@
 -- Values of several parts.
-use Rattle.std.proofs.Common.{◌≡◌, ◌<◌, ◌≤◌, ℕ, zero, suc, ◌+◌, List, [], ◌∷◌, ◌++◌, length, get_or, drop, map, flat_map, Option, Some, None, refl, sym, ap, subst, ◌∙◌}
+use Rattle.std.proofs.Common.{◌≡◌, ◌<◌, ◌≤◌, ℕ, zero, suc, ◌+◌, List, [], ◌∷◌, ◌++◌, length, get_or, drop, map, flat_map, Option, Some, None, refl}
+use Rattle.std.proofs.Common.{sym, ap, subst, ◌∙◌}
 use Rattle.std.proofs.Common.{arith, drop-cons, true, false, ◌&&◌, append_assoc}
 use Rattle.std.proofs.lemmas.List.{drop_all}
 use Rattle.hy_tree.specs.Denotes.{expr_of}
@@ -98,7 +99,8 @@ pub typed_none : (table : Table) (around : Around) (e : T.Expr) (value : Option 
     → IsValue table (valued around false e) value → typed around e ≡ None
 typed_none table around e value same is = ap type_in (sym is.is ∙ ap (perhaps_shown table) same)
 
-pub known_some : (table : Table) (plain : Option P.Value) (value : Option Value) (v : Value) → value ≡ Some v → IsValue table plain value → IsKnown table (Some v)
+pub known_some : (table : Table) (plain : Option P.Value) (value : Option Value) (v : Value) → value ≡ Some v → IsValue table plain value
+    → IsKnown table (Some v)
 known_some table plain value v same is = subst (IsKnown table) same is.known
 
 abbrev types_in : Around → List Part → List (Option PlainType)
@@ -132,7 +134,8 @@ module _ (table : Table) (around : Around) (parts : List Part) where
         let one = typed_some table around (expr_of part.e.now) part.value v same is in
         record {
           are = first.are
-              ∙ ap (λ ts. option_map (λ ts. map (type_of table) ids ++ ts) (all_there ts)) (types_next ∙ ap (λ t. t ∷ types_in around (drop (k + 1) parts)) one)
+              ∙ ap (λ ts. option_map (λ ts. map (type_of table) ids ++ ts) (all_there ts)) (types_next ∙ ap
+              (λ t. t ∷ types_in around (drop (k + 1) parts)) one)
               ∙ before_both (map (type_of table) ids) (type_of table v.id) (all_there (types_in around (drop (k + 1) parts)))
               ∙ ap (λ front. option_map (λ ts. front ++ ts) (all_there (types_in around (drop (k + 1) parts)))) (sym (map_push (type_of table) ids v.id));
           known = below_push (length table.types) ids v.id first.known

@@ -90,7 +90,8 @@ impl Checker<'_> {
     fn note_callable(&mut self, alloc: Global, c: &Callable) -> Result<(), NoMemory>
         requires { IsRight self.old }
         ensures right { OnOk result (IsRight self.new) }
-        ensures learns { OnOk result (Learns (known_of self.old) (known_of self.new) [] (callable_facts (known_of self.old).around.source (callable_of c.now))) }
+        ensures learns { OnOk result (Learns (known_of self.old) (known_of self.new) []
+            (callable_facts (known_of self.old).around.source (callable_of c.now))) }
     {
         self.note_params(alloc, c.params.as_slice())?;
         let id = self.note_result(alloc, &c.result)?;
@@ -101,7 +102,8 @@ impl Checker<'_> {
     fn note_member(&mut self, alloc: Global, member: &Member) -> Result<(), NoMemory>
         requires { IsRight self.old }
         ensures right { OnOk result (IsRight self.new) }
-        ensures learns { OnOk result (Learns (known_of self.old) (known_of self.new) [] (kind_facts (known_of self.old).around.source (member_of member.now).kind)) }
+        ensures learns { OnOk result (Learns (known_of self.old) (known_of self.new) []
+            (kind_facts (known_of self.old).around.source (member_of member.now).kind)) }
     {
         match &member.kind {
             MemberKind::Field(_, written) => {
@@ -119,7 +121,8 @@ impl Checker<'_> {
     fn note_members(&mut self, alloc: Global, members: &[Member]) -> Result<(), NoMemory>
         requires { IsRight self.old }
         ensures right { OnOk result (IsRight self.new) }
-        ensures learns { OnOk result (Learns (known_of self.old) (known_of self.new) [] (members_facts (known_of self.old).around.source (map member_of members.now))) }
+        ensures learns { OnOk result (Learns (known_of self.old) (known_of self.new) []
+            (members_facts (known_of self.old).around.source (map member_of members.now))) }
     {
         for member in members {
             self.note_member(alloc, member)?;
@@ -130,7 +133,8 @@ impl Checker<'_> {
     fn note_decl(&mut self, alloc: Global, decl: &DeclKind) -> Result<(), NoMemory>
         requires { IsRight self.old }
         ensures right { OnOk result (IsRight self.new) }
-        ensures learns { OnOk result (Learns (known_of self.old) (known_of self.new) [] (decl_facts (known_of self.old).around.source (decl_kind_of decl.now))) }
+        ensures learns { OnOk result (Learns (known_of self.old) (known_of self.new) []
+            (decl_facts (known_of self.old).around.source (decl_kind_of decl.now))) }
     {
         match decl {
             DeclKind::Callable(c) => {

@@ -1,17 +1,15 @@
 -- What a truth value decides: the branch of a choice, and whether a loop makes one more pass.
-use Rattle.std.proofs.Common.{◌≡◌, ◌≢◌, ℕ, zero, suc, ◌+◌, ◌<◌, ◌≤◌, Bool, true, false, cond, List, [], ◌∷◌, ◌++◌, Option, Some, None, ℤ, refl, sym, ap, ◌∙◌, subst, arith}
+use Rattle.std.proofs.Common.{◌≡◌, ℕ, zero, suc, ◌+◌, Bool, true, false, [], ◌∷◌, ◌++◌, Some, ℤ, refl, sym, ap, ◌∙◌, subst, arith}
 use Rattle.std.specs.Prelude.{if◌then◌else◌}
 use Rattle.hy_base.specs.declared.run.End.TheVariants as end
-use Rattle.hy_core.specs.Plain.{Stmts, Stmt, If, While}
-use Rattle.hy_core.specs.Values.{Val, Number, Truth}
-use Rattle.hy_core.specs.Values as val
+use Rattle.hy_core.specs.Plain.{Stmts, If}
+use Rattle.hy_core.specs.Values.{Val}
 use Rattle.hy_core.specs.Memory.{lending}
 use Rattle.hy_core.specs.Memory as memory
 use Rattle.hy_core.specs.Runs.{Fetch, Interaction, interpret, Return}
 use Rattle.hy_core.specs.Control.{Control, Setting, Work, Rest, Loop, Test, with_work, with_flag, key, turn, NotSet, form}
 use Rattle.hy_core.specs.Control as core
 use Rattle.hy_core.specs.Statements.{does, tested}
-use Rattle.hy_object.specs.declared.instr.Instr.{Instr}
 use Rattle.hy_object.specs.declared.instr.Instr.TheVariants as instr
 use Rattle.hy_object.specs.declared.object.Object.{Object}
 use Rattle.hy_object.specs.Checks.{goes_to, turn_of, ends}
@@ -20,9 +18,8 @@ use Rattle.hy_object.specs.Words.{truth}
 use Rattle.hy_lower.specs.Places.{own}
 use Rattle.hy_lower.specs.Segments.{test}
 use Rattle.hy_lower.specs.Code.{length_all}
-use Rattle.hy_lower_laws.proofs.Stands.{HasAt, At, LoopAt, StmtAt, choice_test, first_part, second_part, pass_at, Inside}
-use Rattle.hy_lower_laws.proofs.Simulates.{Body, IsBody, IsWord, Linked, mach, Leads, leads_on, Follows, goes_on, over, wrong, stuck, not_set, leads_follows, settles}
-use Rattle.hy_lower_laws.proofs.WordSteps.{Writes}
+use Rattle.hy_lower_laws.proofs.Stands.{HasAt, At, StmtAt, choice_test, first_part, second_part, pass_at}
+use Rattle.hy_lower_laws.proofs.Simulates.{Body, IsBody, IsWord, Linked, mach, Leads, Follows, goes_on, over, wrong, stuck, not_set, settles}
 use Rattle.hy_lower_laws.proofs.Scalars.{Scalar, number, flag, fetches}
 use Rattle.hy_lower_laws.proofs.Choices.{linked_work, unless_at, back_at, test_is, fits}
 
@@ -48,7 +45,7 @@ module _ (o : Object) (y : Body) (is : IsBody y) (p : Setting) (c : Control) (s 
   if_follows on w a b word r =
       let q = pc + 2 + length_all y.frame a + 1 in
       let has = subst (λ l. HasAt y.object.code pc (l ++ instr.JumpUnless y.frame.scratch q ∷ [])) (test_is o y is p c s pc x k on w word)
-          (choice_test y.frame y.object.code pc on a b c.now.work r) in
+      (choice_test y.frame y.object.code pc on a b c.now.work r) in
       let e : pc + 2 ≡ suc (suc pc) = omega arith in
       let first = subst (λ n. At y.frame y.object.code n (Rest a c.now.work)) e (first_part y.frame y.object.code pc on a b c.now.work r) in
       let second = second_part y.frame y.object.code pc on a b c.now.work r in
@@ -103,7 +100,7 @@ module _ (o : Object) (y : Body) (is : IsBody y) (p : Setting) (c : Control) (s 
       → Follows o y (interpret lending (Fetch (memory.whole (key c on)) (λ u. with_flag c u (tested c head on body v))) s) (mach c pc x)
   test_follows on w head body v word (start, after, e, l) =
       let has = subst (λ is. HasAt y.object.code pc (is ++ instr.JumpIf y.frame.scratch l.first ∷ [])) (test_is o y is p c s pc x k on w word)
-          (subst (λ n. HasAt y.object.code n (test y.frame on ++ instr.JumpIf y.frame.scratch l.first ∷ [])) e l.has_test) in
+      (subst (λ n. HasAt y.object.code n (test y.frame on ++ instr.JumpIf y.frame.scratch l.first ∷ [])) e l.has_test) in
       tests on w word has.0 (tested c head on body v) (passes has.1.0)
     where
       passes : nth y.object.code (suc pc) ≡ Some (instr.JumpIf y.frame.scratch l.first)

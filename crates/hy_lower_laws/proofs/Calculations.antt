@@ -1,36 +1,36 @@
 -- Arithmetic and comparisons on locals: both operands to scratch words, the instruction, and the store.
-use Rattle.std.proofs.Common.{◌≡◌, ◌≢◌, ℕ, zero, suc, ◌+◌, ◌<◌, ◌≤◌, Bool, true, false, List, [], ◌∷◌, ◌++◌, Option, Some, None, ℤ, refl, sym, ap, ◌∙◌, subst, arith, slice_get, Result, Ok, Err}
-use Rattle.std.specs.Prelude.{if◌then◌else◌, ◌+ℤ◌, ◌-ℤ◌, ◌*ℤ◌, neg_ℤ}
-use Rattle.hy_base.specs.declared.numbers.IntegerType.TheVariants.{Int, Sized}
+use Rattle.std.proofs.Common.{◌≡◌, ℕ, suc, ◌+◌, ◌≤◌, Bool, true, false, List, [], ◌∷◌, Option, Some, None, ℤ, refl, sym, ap, ◌∙◌, subst, arith, slice_get}
+use Rattle.std.proofs.Common.{Result, Ok, Err}
+use Rattle.std.specs.Prelude.{if◌then◌else◌, ◌+ℤ◌, ◌-ℤ◌, ◌*ℤ◌}
+use Rattle.hy_base.specs.declared.numbers.IntegerType.TheVariants.{Int}
 use Rattle.hy_base.specs.declared.numbers.Operation.TheVariants as operation
 use Rattle.hy_base.specs.declared.position.Span.{Span}
 use Rattle.hy_base.specs.declared.run.TrapKind.{TrapKind}
 use Rattle.hy_base.specs.declared.run.TrapKind.TheVariants as trap
 use Rattle.hy_base.specs.declared.run.End.TheVariants as end
 use Rattle.hy_base.specs.Numbers as base
-use Rattle.hy_core.specs.Plain as plain
 use Rattle.hy_core.specs.Values.{Val, Number, Truth}
 use Rattle.hy_core.specs.Memory.{lending}
 use Rattle.hy_core.specs.Memory as memory
-use Rattle.hy_core.specs.Operators.{as_value, operated, negated, ordered, equal}
-use Rattle.hy_core.specs.Runs.{Interaction, interpret, Return}
+use Rattle.hy_core.specs.Operators.{as_value, operated}
+use Rattle.hy_core.specs.Runs.{interpret}
 use Rattle.hy_core.specs.Control.{Control, Setting, read, write, with_some, trapped, stop, Ends, Form, Numbers, Flags, form}
 use Rattle.hy_core.specs.Control as core
-use Rattle.hy_core.specs.Statements.{arithmetic, compares, give, store_to}
+use Rattle.hy_core.specs.Statements.{arithmetic, give}
 use Rattle.hy_object.specs.declared.instr.Instr.{Instr}
 use Rattle.hy_object.specs.declared.instr.Instr.TheVariants as instr
 use Rattle.hy_object.specs.declared.object.Object.{Object}
 use Rattle.hy_object.specs.Checks.{traps, store, span_of}
 use Rattle.hy_object.specs.Checks as checks
 use Rattle.hy_object.specs.States.{Word, State, Ended, nth}
-use Rattle.hy_object.specs.Words.{Computed, Is, Traps, fitting, computed, calculate, compare, truth}
+use Rattle.hy_object.specs.Words.{Computed, Is, Traps, fitting, computed, calculate}
 use Rattle.hy_object.specs.Steps.{does}
 use Rattle.hy_lower.specs.Places.{own}
 use Rattle.hy_lower_laws.proofs.Stands.{At, HasAt}
-use Rattle.hy_lower_laws.proofs.OwnWords.{calculate_is, compare_is}
-use Rattle.hy_lower_laws.proofs.Simulates.{Body, IsBody, IsWord, Linked, Over, mach, plain_of, Leads, leads_one, leads_none, leads_on, Follows, goes_on, over, wrong, stuck}
+use Rattle.hy_lower_laws.proofs.OwnWords.{calculate_is}
+use Rattle.hy_lower_laws.proofs.Simulates.{Body, IsBody, IsWord, Linked, mach, plain_of, Leads, Follows, over, wrong, stuck}
 use Rattle.hy_lower_laws.proofs.Simulates.{leads_follows}
-use Rattle.hy_lower_laws.proofs.WordSteps.{Puts, Writes, stores_word, scratch_put, owned, one}
+use Rattle.hy_lower_laws.proofs.WordSteps.{stores_word, scratch_put, owned, one}
 use Rattle.hy_lower_laws.proofs.Scalars.{Scalar, number, flag, whole_local, loads, stores}
 
 -- what the core's operation and the machine's give
@@ -49,7 +49,8 @@ module _ (f : ℤ → ℤ → ℤ) (op : Val → Val → Option (Result Val Trap
     (first_flag : (b : Bool) (w : Val) → op (Truth b) w ≡ None) (second_flag : (m : ℤ) (b : Bool) → op (Number Int m) (Truth b) ≡ None) where
   pub tested_gives : (x z : Form) (v w : Val) (m n : ℤ) → Scalar x v m → Scalar z w n → Gives (op v w) (fitting (f m n))
   tested_gives x z v w m n (number _ e) (number _ d) =
-      subst (λ r. Gives r (fitting (f m n))) (sym (ap (λ v. op v w) e ∙ ap (op (Number Int m)) d ∙ on_numbers m n)) (fits_gives (base.is_in Int (f m n)) (f m n))
+      subst (λ r. Gives r (fitting (f m n))) (sym (ap (λ v. op v w) e ∙ ap (op (Number Int m)) d ∙ on_numbers m n)) (fits_gives (base.is_in Int (f m n)) (f
+      m n))
   tested_gives x z v w m n (flag b _ e _) q = none (ap (λ v. op v w) e ∙ first_flag b w)
   tested_gives x z v w m n (number _ e) (flag b _ d _) = none (ap (λ v. op v w) e ∙ ap (op (Number Int m)) d ∙ second_flag m b)
 
@@ -73,7 +74,8 @@ pub trap_follows : (o : Object) (y : Body) (c : Control) (s : memory.Cells) (pc 
 trap_follows o y c s pc x k p same why span m l = by (slice_get p.core.spans span) refl
   where
     by : (r : Option Span) → slice_get p.core.spans span ≡ r → Follows o y (interpret lending (trapped p c why span) s) m
-    by None e = subst (λ r. Follows o y (interpret lending (with_some c r (λ span. stop c (Ends (end.Trap why span)))) s) m) (sym e) (wrong core.Stuck refl stuck)
+    by None e = subst (λ r. Follows o y (interpret lending (with_some c r (λ span. stop c (Ends (end.Trap why span)))) s) m) (sym e) (wrong core.Stuck refl
+        stuck)
     by (Some at) e = subst (λ r. Follows o y (interpret lending (with_some c r (λ span. stop c (Ends (end.Trap why span)))) s) m) (sym e)
         (over (traps o (mach c pc x) why span) l (record {
           how = end.Trap why at;
@@ -108,7 +110,8 @@ module _ (o : Object) (y : Body) (is_body : IsBody y) (p : Setting) (same : Same
 
       by : Gives r (f m n) → Follows o y (interpret lending (with_some c r (λ r. give p c (Some (whole_local l)) span r)) s) (mach c pc x)
       by (value j q g) =
-          let t = stores_word o y is_body c s pc x k y.frame.scratch j i has.0 (done ∙ ap (computed o (mach c pc x) (checks.own (mach c pc x) y.frame.scratch 1) span) g) in
+          let t = stores_word o y is_body c s pc x k y.frame.scratch j i has.0 (done ∙ ap (computed o (mach c pc x) (checks.own (mach c pc x)
+          y.frame.scratch 1) span) g) in
           let k' = scratch_put o y is_body c s pc x k t.cells y.frame.scratch (Word j) (omega arith) refl t.puts in
           subst (λ r. Follows o y (interpret lending (with_some c r (λ r. give p c (Some (whole_local l)) span r)) s) (mach c pc x)) (sym q)
           (leads_follows o y _ (mach c pc x) (mach c (suc pc) (record x { cells = t.cells })) t.leads
@@ -139,4 +142,5 @@ module _ (o : Object) (y : Body) (is_body : IsBody y) (p : Setting) (same : Same
       (λ w n sw t k2.
       let x2 : State = record x { cells = t.cells } in
       let kept : t.cells x.now.frame scratch ≡ Word m = t.puts.there x.now.frame scratch (λ _ q. omega arith) ∙ r.puts.here in
-      calculated c s (suc (suc pc)) x2 k2 i span f m n (op v w) l wl il kind (gives (form y.frame.types ia.type) (form y.frame.types ib.type) v w m n sv sw) act kept t.puts.here has.1.1 at))
+      calculated c s (suc (suc pc)) x2 k2 i span f m n (op v w) l wl il kind (gives (form y.frame.types ia.type) (form y.frame.types ib.type) v w m n sv
+      sw) act kept t.puts.here has.1.1 at))

@@ -1,38 +1,47 @@
 -- Choices and loops: the machine goes where the core goes, and takes a turn where it takes one.
-use Rattle.std.proofs.Common.{◌≡◌, ◌≢◌, ℕ, zero, suc, ◌+◌, ◌<◌, ◌≤◌, Bool, true, false, not, cond, ltb, List, [], ◌∷◌, ◌++◌, length, Option, Some, None, ℤ, refl, sym, ap, ◌∙◌, subst, arith}
+use Rattle.std.proofs.Common.{◌≡◌, ℕ, suc, ◌+◌, ◌<◌, ◌≤◌, Bool, true, false, not, cond, [], ◌∷◌, Option, Some, None, refl, sym, ap, ◌∙◌, subst, arith}
 use Rattle.std.proofs.lemmas.Bool.{lt-ltb, le-ltb}
 use Rattle.std.specs.Prelude.{if◌then◌else◌}
-use Rattle.hy_base.specs.declared.run.End.TheVariants as end
-use Rattle.hy_core.specs.Plain.{Stmts, Done, Then, Stmt, If, While, Break, Continue}
-use Rattle.hy_core.specs.Values.{Val, Number, Truth}
-use Rattle.hy_core.specs.Values as val
+use Rattle.hy_core.specs.Plain.{Stmts, Done, While, Break, Continue}
 use Rattle.hy_core.specs.Memory.{lending}
 use Rattle.hy_core.specs.Memory as memory
 use Rattle.hy_core.specs.Runs.{interpret, Return}
 use Rattle.hy_core.specs.Control.{Control, Setting, Work, Idle, Rest, Loop, Test, with_work, with_flag, with_some, turn, stop, NotSet, Form, form, Ends}
 use Rattle.hy_core.specs.Control as core
-use Rattle.hy_core.specs.Statements.{does, tested, broken, continued}
+use Rattle.hy_core.specs.Statements.{does, broken, continued}
 use Rattle.hy_object.specs.declared.instr.Instr.TheVariants as instr
 use Rattle.hy_object.specs.declared.object.Object.{Object}
-use Rattle.hy_object.specs.Checks.{next, goes_to, take_turn, turn_of, with_turn, ends}
-use Rattle.hy_object.specs.Controls.{jump, jump_where, jump_if, jump_unless}
-use Rattle.hy_object.specs.States.{Word, State, Ended, nth}
+use Rattle.hy_object.specs.Checks.{goes_to, take_turn, turn_of}
+use Rattle.hy_object.specs.Controls.{jump_where, jump_if, jump_unless}
+use Rattle.hy_object.specs.States.{Word, State, nth}
 use Rattle.hy_object.specs.Words.{truth, is_zero}
-use Rattle.hy_lower.specs.Frames.{home_of}
 use Rattle.hy_lower.specs.Places.{own, place_at}
 use Rattle.hy_lower.specs.Segments.{test}
-use Rattle.hy_lower.specs.Code.{length_all, length_of}
-use Rattle.hy_lower_laws.proofs.Stands.{Goes, HasAt, At, Inside, LoopAt, StmtAt, goes_from, choice_test, first_part, second_part, loop_jump, loop_at}
-use Rattle.hy_lower_laws.proofs.Stands.{head_at, pass_at, break_at, continue_at}
+use Rattle.hy_lower.specs.Code.{length_all}
+use Rattle.hy_lower_laws.proofs.Stands.{At, StmtAt, goes_from, loop_jump, loop_at}
+use Rattle.hy_lower_laws.proofs.Stands.{head_at, break_at, continue_at}
 use Rattle.hy_lower_laws.proofs.OwnWords.{read_is}
-use Rattle.hy_lower_laws.proofs.Simulates.{Body, IsBody, IsWord, Linked, Over, mach, plain_of, Leads, leads_on, leads_none, Follows, goes_on, over, wrong, stuck, not_set}
-use Rattle.hy_lower_laws.proofs.Simulates.{leads_follows, settles}
+use Rattle.hy_lower_laws.proofs.Simulates.{Body, IsBody, IsWord, Linked, mach, plain_of, Leads, leads_none, Follows, goes_on, wrong, stuck}
+use Rattle.hy_lower_laws.proofs.Simulates.{settles}
 use Rattle.hy_lower_laws.proofs.WordSteps.{one, owned}
-use Rattle.hy_lower_laws.proofs.Scalars.{Scalar, number, flag, fetches}
 
 -- another control of the same activation
 pub linked_work : (y : Body) (c : Control) (s : memory.Cells) (x : State) (w : Work) → Linked y c s x → Linked y (with_work c w) s x
-linked_work y c s x w k = record { going = k.going; stop = k.stop; core = k.core; object = k.object; closed = k.closed; own = k.own; holds = k.holds; turns = k.turns; core_alone = k.core_alone; alone = k.alone; role = k.role; slots = k.slots }
+linked_work y c s x w k = record {
+  going = k.going;
+  stop = k.stop;
+  core = k.core;
+  object = k.object;
+  closed = k.closed;
+  own = k.own;
+  holds = k.holds;
+  turns
+      = k.turns;
+  core_alone = k.core_alone;
+  alone = k.alone;
+  role = k.role;
+  slots = k.slots;
+}
 
 module _ (o : Object) (y : Body) (is : IsBody y) (p : Setting) (c : Control) (s : memory.Cells) (pc : ℕ) (x : State) (k : Linked y c s x) where
   -- the core stands somewhere else, and so does the machine
@@ -67,7 +76,8 @@ module _ (o : Object) (y : Body) (is : IsBody y) (p : Setting) (c : Control) (s 
   break_follows r = by (broken c.now.work) refl
     where
       by : (v : Option Work) → broken c.now.work ≡ v → Follows o y (interpret lending (does p c Break) s) (mach c pc x)
-      by None e = subst (λ v. Follows o y (interpret lending (with_some c v (λ w. Return (with_work c w))) s) (mach c pc x)) (sym e) (wrong core.Stuck refl stuck)
+      by None e = subst (λ v. Follows o y (interpret lending (with_some c v (λ w. Return (with_work c w))) s) (mach c pc x)) (sym e) (wrong core.Stuck refl
+          stuck)
       by (Some v) e =
           let b = break_at y.frame y.object.code (pc + 1) r.after r.again c.now.work v e r.inside in
           subst (λ v. Follows o y (interpret lending (with_some c v (λ w. Return (with_work c w))) s) (mach c pc x)) (sym e)
@@ -78,7 +88,8 @@ module _ (o : Object) (y : Body) (is : IsBody y) (p : Setting) (c : Control) (s 
   continue_follows r = by (continued c.now.work) refl
     where
       by : (v : Option Work) → continued c.now.work ≡ v → Follows o y (interpret lending (does p c Continue) s) (mach c pc x)
-      by None e = subst (λ v. Follows o y (interpret lending (with_some c v (λ w. Return (with_work c w))) s) (mach c pc x)) (sym e) (wrong core.Stuck refl stuck)
+      by None e = subst (λ v. Follows o y (interpret lending (with_some c v (λ w. Return (with_work c w))) s) (mach c pc x)) (sym e) (wrong core.Stuck refl
+          stuck)
       by (Some v) e =
           let b = continue_at y.frame y.object.code (pc + 1) r.after r.again c.now.work v e r.inside in
           subst (λ v. Follows o y (interpret lending (with_some c v (λ w. Return (with_work c w))) s) (mach c pc x)) (sym e)
@@ -94,7 +105,8 @@ module _ (o : Object) (y : Body) (is : IsBody y) (p : Setting) (c : Control) (s 
   test_is on w word = ap (λ h. instr.Copy (own y.frame.scratch) (place_at h) 1 ∷ []) word.home
 
   -- where the first scratch word has a truth value
-  pub unless_at : (b : Bool) (q : ℕ) → x.cells x.now.frame y.frame.scratch ≡ Word (truth b) → nth y.object.code pc ≡ Some (instr.JumpUnless y.frame.scratch q) → pc < q
+  pub unless_at : (b : Bool) (q : ℕ) → x.cells x.now.frame y.frame.scratch ≡ Word (truth b) → nth y.object.code pc ≡ Some (instr.JumpUnless y.frame.scratch
+      q) → pc < q
       → Leads o (mach c pc x) (mach c (if b then suc pc else q) x)
   unless_at b q d h l = by b d
     where
@@ -109,7 +121,8 @@ module _ (o : Object) (y : Body) (is : IsBody y) (p : Setting) (c : Control) (s 
           (read false d ∙ ap (λ b. cond b (mach c q x) (take_turn (mach c pc x) (λ t. goes_to t q))) (lt-ltb pc q l))
 
   -- a jump back takes a turn
-  pub back_at : (b : Bool) (q : ℕ) → x.cells x.now.frame y.frame.scratch ≡ Word (truth b) → nth y.object.code pc ≡ Some (instr.JumpIf y.frame.scratch q) → q ≤ pc
+  pub back_at : (b : Bool) (q : ℕ) → x.cells x.now.frame y.frame.scratch ≡ Word (truth b) → nth y.object.code pc ≡ Some (instr.JumpIf y.frame.scratch q) →
+      q ≤ pc
       → Leads o (mach c pc x) (if b then turn_of (mach c pc x) c.turns (λ t. goes_to t q) else mach c (suc pc) x)
   back_at b q d h l = by b d
     where

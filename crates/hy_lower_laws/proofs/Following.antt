@@ -1,30 +1,30 @@
 -- Each step of the core on whole locals of one word, by its form.
-use Rattle.std.proofs.Common.{◌≡◌, ◌⊎◌, ⊎_elim, ℕ, zero, suc, ◌+◌, List, [], ◌∷◌, ◌++◌, Option, Some, None, ℤ, pos, true, false, slice_get, refl, sym, ap, ◌∙◌, subst, arith}
+use Rattle.std.proofs.Common.{◌≡◌, ⊎_elim, ℕ, suc, ◌+◌, List, [], ◌∷◌, ◌++◌, Option, Some, None, ℤ, true, false, slice_get, refl, sym, ap, ◌∙◌, subst, arith}
 use Rattle.std.specs.Prelude.{◌+ℤ◌, ◌-ℤ◌, ◌*ℤ◌, int_lt, int_le}
 use Rattle.hy_base.specs.declared.numbers.IntegerType.TheVariants.{Int}
 use Rattle.hy_base.specs.declared.numbers.Operation.TheVariants as operation
 use Rattle.hy_core.specs.Plain as plain
 use Rattle.hy_core.specs.Plain.{Place, Stmts, Done, Then, Stmt, Built, Set, If, While, Break, Continue, Add, Sub, Mul, Lt, Le, Print}
-use Rattle.hy_core.specs.Values.{Val, Number, Truth, Tuple, Product, No}
+use Rattle.hy_core.specs.Values.{Number, Truth, Tuple, Product, No}
 use Rattle.hy_core.specs.Memory.{lending}
 use Rattle.hy_core.specs.Memory as memory
 use Rattle.hy_core.specs.Operators.{operated, ordered}
 use Rattle.hy_core.specs.Runs.{interpret}
 use Rattle.hy_core.specs.Control.{Control, GivesUp, Setting, Work, Idle, Rest, Loop, Test, Drops, with_work, Form, Numbers, Flags, Tuples, Products, form}
-use Rattle.hy_core.specs.Statements.{does, goes_on, interaction, interaction_of, constant}
+use Rattle.hy_core.specs.Statements.{does, goes_on, interaction_of, constant}
 use Rattle.hy_object.specs.declared.instr.Instr.TheVariants as instr
 use Rattle.hy_object.specs.declared.object.Object.{Object}
 use Rattle.hy_object.specs.States.{State}
-use Rattle.hy_object.specs.Words.{fitting, truth}
-use Rattle.hy_lower.specs.Frames.{Frame}
+use Rattle.hy_object.specs.Words.{fitting}
 use Rattle.hy_lower.specs.Places.{own, place_at, form_at, size_at}
 use Rattle.hy_lower.specs.Segments as segment
 use Rattle.hy_lower.specs.Segments.{shown_as}
 use Rattle.hy_lower.specs.Code.{constant_length}
-use Rattle.hy_lower_laws.specs.WordSteps.{TwoWords, OneWord, NoWords, HasNoParts, One, IsConstant, IsWordBuilt, IsWordStmt, IsWordWork, WordStepsFollow, SameSpans, whole_local}
+use Rattle.hy_lower_laws.specs.WordSteps.{TwoWords, OneWord, NoWords, HasNoParts, IsConstant, IsWordBuilt, IsWordStmt, IsWordWork, WordStepsFollow, SameSpans}
+use Rattle.hy_lower_laws.specs.WordSteps.{whole_local}
 use Rattle.hy_lower_laws.proofs.Stands.{HasAt, At, StmtAt, first_at}
-use Rattle.hy_lower_laws.proofs.Simulates.{Body, IsBody, IsWord, Linked, mach, Follows}
-use Rattle.hy_lower_laws.proofs.Scalars.{Scalar, number, flag}
+use Rattle.hy_lower_laws.proofs.Simulates.{Body, IsBody, Linked, mach, Follows}
+use Rattle.hy_lower_laws.proofs.Scalars.{number, flag}
 use Rattle.hy_lower_laws.proofs.Calculations.{arithmetic_follows, add_gives, sub_gives, mul_gives}
 use Rattle.hy_lower_laws.proofs.Choices.{linked_work, done_follows, while_follows, loop_follows, break_follows, continue_follows}
 use Rattle.hy_lower_laws.proofs.Branches.{if_follows, test_follows}
@@ -35,7 +35,6 @@ use Rattle.hy_lower_laws.proofs.Forms.{read_words, write_words, two_words, set_f
 
 module _ (o : Object) (y : Body) (is : IsBody y) (p : Setting) (stage : p.stage ≡ GivesUp) (same : SameSpans o p) (tables : p.core.types ≡ y.frame.types)
     (c : Control) (s : memory.Cells) (pc : ℕ) (x : State) (k : Linked y c s x) where
-
   abbrev Comes : Stmt → Type 0
   Comes t = StmtAt y.frame y.object.code pc t c.now.work → Follows o y (interpret lending (does p c t) s) (mach c pc x)
 
@@ -57,7 +56,8 @@ module _ (o : Object) (y : Body) (is : IsBody y) (p : Setting) (stage : p.stage 
       let i = instr.Add y.frame.scratch y.frame.scratch (suc y.frame.scratch) span in
       arithmetic_follows o y is p same c s pc x k i span (λ m n. fitting (m +ℤ n)) (operated operation.Add) r.first r.second r.target r.first_word
       r.second_word r.target_word r.is_first r.is_second r.is_target r.kind add_gives (λ z. refl)
-      (subst (HasAt y.object.code pc) (two_words y.frame r.first r.second r.target r.first_word r.second_word r.target_word i r.is_first r.is_second r.is_target) at.has)
+      (subst (HasAt y.object.code pc) (two_words y.frame r.first r.second r.target r.first_word r.second_word r.target_word i r.is_first r.is_second
+      r.is_target) at.has)
       (subst (λ n. At y.frame y.object.code n c.now.work) four at.next))
 
   sub_comes : (to : Option Place) (from : List Place) (spans : List ℕ) → IsWordBuilt y.frame Sub to from spans → Comes (Built Sub to from spans)
@@ -67,7 +67,8 @@ module _ (o : Object) (y : Body) (is : IsBody y) (p : Setting) (stage : p.stage 
       let i = instr.Sub y.frame.scratch y.frame.scratch (suc y.frame.scratch) span in
       arithmetic_follows o y is p same c s pc x k i span (λ m n. fitting (m -ℤ n)) (operated operation.Sub) r.first r.second r.target r.first_word
       r.second_word r.target_word r.is_first r.is_second r.is_target r.kind sub_gives (λ z. refl)
-      (subst (HasAt y.object.code pc) (two_words y.frame r.first r.second r.target r.first_word r.second_word r.target_word i r.is_first r.is_second r.is_target) at.has)
+      (subst (HasAt y.object.code pc) (two_words y.frame r.first r.second r.target r.first_word r.second_word r.target_word i r.is_first r.is_second
+      r.is_target) at.has)
       (subst (λ n. At y.frame y.object.code n c.now.work) four at.next))
 
   mul_comes : (to : Option Place) (from : List Place) (spans : List ℕ) → IsWordBuilt y.frame Mul to from spans → Comes (Built Mul to from spans)
@@ -77,7 +78,8 @@ module _ (o : Object) (y : Body) (is : IsBody y) (p : Setting) (stage : p.stage 
       let i = instr.Mul y.frame.scratch y.frame.scratch (suc y.frame.scratch) span in
       arithmetic_follows o y is p same c s pc x k i span (λ m n. fitting (m *ℤ n)) (operated operation.Mul) r.first r.second r.target r.first_word
       r.second_word r.target_word r.is_first r.is_second r.is_target r.kind mul_gives (λ z. refl)
-      (subst (HasAt y.object.code pc) (two_words y.frame r.first r.second r.target r.first_word r.second_word r.target_word i r.is_first r.is_second r.is_target) at.has)
+      (subst (HasAt y.object.code pc) (two_words y.frame r.first r.second r.target r.first_word r.second_word r.target_word i r.is_first r.is_second
+      r.is_target) at.has)
       (subst (λ n. At y.frame y.object.code n c.now.work) four at.next))
 
   lt_comes : (to : Option Place) (from : List Place) (spans : List ℕ) → TwoWords y.frame Flags to from → Comes (Built Lt to from spans)
@@ -85,7 +87,8 @@ module _ (o : Object) (y : Body) (is : IsBody y) (p : Setting) (stage : p.stage 
       let i = instr.Lt y.frame.scratch y.frame.scratch (suc y.frame.scratch) in
       compare_follows o y is p same tables c s pc x k i int_lt (ordered int_lt) r.first r.second r.target r.first_word
       r.second_word r.target_word r.is_first r.is_second r.is_target r.kind (ordered_gives int_lt) (λ z. refl)
-      (subst (HasAt y.object.code pc) (two_words y.frame r.first r.second r.target r.first_word r.second_word r.target_word i r.is_first r.is_second r.is_target) at.has)
+      (subst (HasAt y.object.code pc) (two_words y.frame r.first r.second r.target r.first_word r.second_word r.target_word i r.is_first r.is_second
+      r.is_target) at.has)
       (subst (λ n. At y.frame y.object.code n c.now.work) four at.next))
 
   le_comes : (to : Option Place) (from : List Place) (spans : List ℕ) → TwoWords y.frame Flags to from → Comes (Built Le to from spans)
@@ -93,7 +96,8 @@ module _ (o : Object) (y : Body) (is : IsBody y) (p : Setting) (stage : p.stage 
       let i = instr.Le y.frame.scratch y.frame.scratch (suc y.frame.scratch) in
       compare_follows o y is p same tables c s pc x k i int_le (ordered int_le) r.first r.second r.target r.first_word
       r.second_word r.target_word r.is_first r.is_second r.is_target r.kind (ordered_gives int_le) (λ z. refl)
-      (subst (HasAt y.object.code pc) (two_words y.frame r.first r.second r.target r.first_word r.second_word r.target_word i r.is_first r.is_second r.is_target) at.has)
+      (subst (HasAt y.object.code pc) (two_words y.frame r.first r.second r.target r.first_word r.second_word r.target_word i r.is_first r.is_second
+      r.is_target) at.has)
       (subst (λ n. At y.frame y.object.code n c.now.work) four at.next))
 
   print_comes : (to : Option Place) (from : List Place) (spans : List ℕ) → IsWordBuilt y.frame Print to from spans → Comes (Built Print to from spans)
@@ -103,8 +107,8 @@ module _ (o : Object) (y : Body) (is : IsBody y) (p : Setting) (stage : p.stage 
       subst (λ to. Comes (Built Print to (a ∷ []) spans)) (sym e) (subst (λ a. Comes (Built Print None (a ∷ []) spans)) (sym w.is_place) (λ at.
       let S = y.frame.scratch in
       let shows : segment.built y.frame Print None (whole_local w.local ∷ []) spans
-          ≡ instr.Copy (own S) (own w.word) 1 ∷ instr.Print S (shown_as (form y.frame.types w.is_word.type)) ∷ [] = λ j.
-          (read_words y.frame w.local w.word S w.is_word j ++ []) ++ (instr.Print S (shown_as (form_at y.frame (w.is_word.typed j))) ∷ []) in
+      ≡ instr.Copy (own S) (own w.word) 1 ∷ instr.Print S (shown_as (form y.frame.types w.is_word.type)) ∷ [] = λ j.
+      (read_words y.frame w.local w.word S w.is_word j ++ []) ++ (instr.Print S (shown_as (form_at y.frame (w.is_word.typed j))) ∷ []) in
       print_follows o y is p same tables c s pc x k w.local w.word w.is_word (subst (HasAt y.object.code pc) shows at.has)
       (subst (λ n. At y.frame y.object.code n c.now.work) two at.next)))
 
@@ -114,8 +118,9 @@ module _ (o : Object) (y : Body) (is : IsBody y) (p : Setting) (stage : p.stage 
       let t = w.is_word.type in
       let size = ap (size_at y.frame) w.is_word.typed ∙ w.is_word.size in
       let stands : segment.set y.frame (whole_local w.local) n ≡ instr.Const S n ∷ instr.Move (own w.word) (own S) 1 ∷ [] = λ j.
-          segment.constant y.frame (size j) n ++ write_words y.frame w.local w.word S w.is_word j in
-      let long : pc + (constant_length (size_at y.frame (slice_get y.frame.locals w.local)) + 1) ≡ suc (suc pc) = ap (λ n. pc + (constant_length n + 1)) size ∙ two in
+      segment.constant y.frame (size j) n ++ write_words y.frame w.local w.word S w.is_word j in
+      let long : pc + (constant_length (size_at y.frame (slice_get y.frame.locals w.local)) + 1) ≡ suc (suc pc) = ap (λ n. pc + (constant_length n + 1))
+      size ∙ two in
       let has = subst (HasAt y.object.code pc) stands at.has in
       let next = subst (λ n. At y.frame y.object.code n c.now.work) long at.next in
       let forms = λ (f : Form) (e : form y.frame.types t ≡ f). ap (λ types. form types t) tables ∙ e in
@@ -135,8 +140,9 @@ module _ (o : Object) (y : Body) (is : IsBody y) (p : Setting) (stage : p.stage 
       let z = w.is_nothing in
       let size = ap (size_at y.frame) z.typed ∙ z.size in
       let stands : segment.set y.frame (whole_local w.local) n ≡ instr.Move (own w.word) (own S) 0 ∷ [] = λ j.
-          segment.constant y.frame (size j) n ++ (instr.Move (place_at (z.home j)) (own S) (size j) ∷ []) in
-      let long : pc + (constant_length (size_at y.frame (slice_get y.frame.locals w.local)) + 1) ≡ suc pc = ap (λ n. pc + (constant_length n + 1)) size ∙ omega arith in
+      segment.constant y.frame (size j) n ++ (instr.Move (place_at (z.home j)) (own S) (size j) ∷ []) in
+      let long : pc + (constant_length (size_at y.frame (slice_get y.frame.locals w.local)) + 1) ≡ suc pc = ap (λ n. pc + (constant_length n + 1)) size ∙
+      omega arith in
       let has = subst (HasAt y.object.code pc) stands at.has in
       let next = subst (λ n. At y.frame y.object.code n c.now.work) long at.next in
       let below = is.nothing w.local w.word z in
@@ -153,12 +159,13 @@ module _ (o : Object) (y : Body) (is : IsBody y) (p : Setting) (stage : p.stage 
       let z = w.is_nothing in
       let size = ap (size_at y.frame) z.typed ∙ z.size in
       let stands : segment.leave y.frame (whole_local w.local) ≡ instr.Move (own S) (own w.word) 0 ∷ instr.Return S ∷ [] = λ j.
-          (instr.Move (own S) (place_at (z.home j)) (size j) ∷ []) ++ instr.Return S ∷ [] in
+      (instr.Move (own S) (place_at (z.home j)) (size j) ∷ []) ++ instr.Return S ∷ [] in
       let below = is.nothing w.local w.word z in
       let f = is.scratch in
       leave_follows o y is p c s pc x k w.local w.word z (omega arith) (subst (HasAt y.object.code pc) stands at.has))
 
-  built_comes : (t : plain.Operator) (to : Option Place) (from : List Place) (spans : List ℕ) → IsWordBuilt y.frame t to from spans → Comes (Built t to from spans)
+  built_comes : (t : plain.Operator) (to : Option Place) (from : List Place) (spans : List ℕ) → IsWordBuilt y.frame t to from spans → Comes (Built t to
+      from spans)
   built_comes Add to from spans h = add_comes to from spans h
   built_comes Sub to from spans h = sub_comes to from spans h
   built_comes Mul to from spans h = mul_comes to from spans h

@@ -1,45 +1,36 @@
 -- Statements on locals of one word, each with its segment.
-use Rattle.std.proofs.Common.{◌≡◌, ◌≢◌, ◌⊎◌, inl, inr, ⊎_elim, ℕ, zero, suc, ◌+◌, ◌<◌, ◌≤◌, Bool, true, false, cond, List, [], ◌∷◌, ◌++◌, Option, Some, None, ℤ, refl, sym, ap, ◌∙◌, subst, arith, slice_get}
-use Rattle.std.proofs.lemmas.Bool.{cond_both, cases_eq, true≢false}
-use Rattle.std.specs.Prelude.{if◌then◌else◌, ◌+ℤ◌, ◌-ℤ◌, ◌*ℤ◌, int_lt, int_le, codes}
-use Rattle.std.specs.Fmt.{signed_decimal}
-use Rattle.hy_base.specs.declared.numbers.IntegerType.TheVariants.{Int, Sized}
-use Rattle.hy_base.specs.declared.numbers.Operation.TheVariants as operation
+use Rattle.std.proofs.Common.{◌≡◌, ◌⊎◌, inl, inr, ⊎_elim, ℕ, suc, ◌+◌, ◌≤◌, Bool, true, false, [], ◌∷◌, ◌++◌, Option, Some, None, ℤ, refl, sym, ap, ◌∙◌}
+use Rattle.std.proofs.Common.{subst, arith, slice_get}
+use Rattle.hy_base.specs.declared.numbers.IntegerType.TheVariants.{Int}
 use Rattle.hy_core.specs.Plain as plain
 use Rattle.hy_core.specs.Values.{Val, Number, Truth}
-use Rattle.hy_core.specs.Values as val
 use Rattle.hy_core.specs.Memory.{Key, key_eq, set_at, target_of, lending}
 use Rattle.hy_core.specs.Memory as memory
-use Rattle.hy_core.specs.Operators.{operated, ordered, line_of}
+use Rattle.hy_core.specs.Operators.{ordered, line_of}
 use Rattle.hy_core.specs.Runs.{Interaction, Fetch, Perform, interpret, Return}
 use Rattle.hy_core.specs.Runs as runs
 use Rattle.hy_core.specs.Control.{Control, Setting, Form, Numbers, Flags, form, with_some, with_set, key, read, take, write, local_type, NotSet, Work}
 use Rattle.hy_core.specs.Control as core
-use Rattle.hy_core.specs.Statements.{does, constant, arithmetic, compares, prints, store_to, drop}
+use Rattle.hy_core.specs.Statements.{does, constant, compares, prints, store_to}
 use Rattle.hy_object.specs.declared.instr.Instr.{Instr}
 use Rattle.hy_object.specs.declared.instr.Instr.TheVariants as instr
-use Rattle.hy_object.specs.declared.instr.Shown.{Shown}
-use Rattle.hy_object.specs.declared.instr.Shown.TheVariants as shown
 use Rattle.hy_object.specs.declared.object.Object.{Object}
-use Rattle.hy_object.specs.Checks.{is_name, is_set, next, store}
-use Rattle.hy_object.specs.Checks as checks
-use Rattle.hy_object.specs.States.{Unset, Word, State, nth}
+use Rattle.hy_object.specs.Checks.{next}
+use Rattle.hy_object.specs.States.{Word, State}
 use Rattle.hy_object.specs.Words.{truth, compare, calculate, fitting}
 use Rattle.hy_object.specs.Words as words
 use Rattle.hy_object.specs.Steps as steps
-use Rattle.hy_lower.specs.declared.body.Home.TheVariants.{Words}
-use Rattle.hy_lower.specs.Frames.{Frame, home_of}
-use Rattle.hy_lower.specs.Places.{own, place_at, size_at, form_at}
+use Rattle.hy_lower.specs.Frames.{Frame}
+use Rattle.hy_lower.specs.Places.{own, place_at, size_at}
 use Rattle.hy_lower.specs.Segments as segment
 use Rattle.hy_lower.specs.Segments.{shown_as, span_at}
-use Rattle.hy_lower.specs.Code.{code_of, length_of}
-use Rattle.hy_lower_laws.proofs.Stands.{HasAt, At, StmtAt}
+use Rattle.hy_lower_laws.proofs.Stands.{HasAt, At}
 use Rattle.hy_lower_laws.proofs.OwnWords.{compare_is, read_is}
-use Rattle.hy_lower_laws.proofs.Simulates.{Body, IsBody, IsWord, Cells, CellIs, Holds, Linked, mach, plain_of, Leads, leads_none, Follows, goes_on, over, wrong, stuck, not_set}
+use Rattle.hy_lower_laws.proofs.Simulates.{Body, IsBody, IsWord, Linked, mach, plain_of, Follows, goes_on, wrong, stuck}
 use Rattle.hy_lower_laws.proofs.Simulates.{leads_follows}
-use Rattle.hy_lower_laws.proofs.WordSteps.{Writes, const_writes, stores_word, scratch_put, linked_with, one, owned}
-use Rattle.hy_lower_laws.proofs.Scalars.{Scalar, number, flag, whole_local, loads, stores, key_from, in_frame}
-use Rattle.hy_lower_laws.proofs.Calculations.{SameSpans, two_operands, arithmetic_follows, add_gives, sub_gives, mul_gives, Gives}
+use Rattle.hy_lower_laws.proofs.WordSteps.{const_writes, stores_word, scratch_put, one, owned}
+use Rattle.hy_lower_laws.proofs.Scalars.{Scalar, number, flag, whole_local, loads, stores}
+use Rattle.hy_lower_laws.proofs.Calculations.{SameSpans, two_operands}
 
 -- an operation gives this truth value, or nothing
 abbrev pub IsOrNone : Option Bool → Bool → Type 0
@@ -77,7 +68,6 @@ module _ (b : Frame) where
 
 module _ (o : Object) (y : Body) (is : IsBody y) (p : Setting) (same : SameSpans o p) (tables : p.core.types ≡ y.frame.types)
     (c : Control) (s : memory.Cells) (pc : ℕ) (x : State) (k : Linked y c s x) where
-
   scratch_fits : y.frame.scratch + 1 ≤ y.object.words
   scratch_fits = let f = is.scratch in omega arith
 
@@ -128,12 +118,25 @@ module _ (o : Object) (y : Body) (is : IsBody y) (p : Setting) (same : SameSpans
       let f = form y.frame.types word.type in
       let c1 : Control = record c { output = c.output ++ words.line_of (shown_as f) n } in
       let lead = one o y is c s (suc pc) x1 k1 (mach c1 (suc (suc pc)) x1) (instr.Print y.frame.scratch (shown_as f)) has.1.0
-          (read_is (mach c (suc pc) x1) (plain_of y c s (suc pc) x1 k1) y.frame.scratch n
-          (λ n. let t = next (mach c (suc pc) x1) in record t { output = c.output ++ words.line_of (shown_as f) n })
-          (owned o y is c s (suc pc) x1 k1 y.frame.scratch scratch_fits) r.puts.here) in
+      (read_is (mach c (suc pc) x1) (plain_of y c s (suc pc) x1 k1) y.frame.scratch n
+      (λ n. let t = next (mach c (suc pc) x1) in record t { output = c.output ++ words.line_of (shown_as f) n })
+      (owned o y is c s (suc pc) x1 k1 y.frame.scratch scratch_fits) r.puts.here) in
       subst (λ l. Follows o y (interpret lending (prints c l) s) (mach c (suc pc) x1)) (sym (line_is f v n scalar))
       (goes_on (suc (suc pc)) x1
-      (record { going = k1.going; stop = k1.stop; core = k1.core; object = k1.object; closed = k1.closed; own = k1.own; holds = k1.holds; turns = k1.turns; core_alone = k1.core_alone; alone = k1.alone; role = k1.role; slots = k1.slots })
+      (record {
+        going = k1.going;
+        stop = k1.stop;
+        core = k1.core;
+        object = k1.object;
+        closed = k1.closed;
+        own = k1.own;
+        holds = k1.holds;
+        turns = k1.turns;
+        core_alone = k1.core_alone;
+        alone = k1.alone;
+        role = k1.role;
+        slots = k1.slots;
+      })
       at lead))
 
   -- COMPARISONS
@@ -158,14 +161,16 @@ module _ (o : Object) (y : Body) (is : IsBody y) (p : Setting) (same : SameSpans
       let x2 : State = record x { cells = t.cells } in
       let kept : t.cells x.now.frame scratch ≡ Word m = t.puts.there x.now.frame scratch (λ _ q. omega arith) ∙ r.puts.here in
       let done = act (mach c (suc (suc pc)) x2) ∙ compare_is (mach c (suc (suc pc)) x2) (plain_of y c s (suc (suc pc)) x2 k2) scratch (suc scratch) m n f
-          (owned o y is c s (suc (suc pc)) x2 k2 scratch (omega arith)) (owned o y is c s (suc (suc pc)) x2 k2 (suc scratch) (omega arith)) kept t.puts.here in
+      (owned o y is c s (suc (suc pc)) x2 k2 scratch (omega arith)) (owned o y is c s (suc (suc pc)) x2 k2 (suc scratch) (omega arith)) kept t.puts.here in
       let u = stores_word o y is c s (suc (suc pc)) x2 k2 scratch (truth (f m n)) i has.1.1.0 done in
       let k3 = scratch_put o y is c s (suc (suc pc)) x2 k2 u.cells scratch (Word (truth (f m n))) (omega arith) refl u.puts in
       let x3 : State = record x { cells = u.cells } in
       ⊎_elim
-      (λ e. subst (λ r. Follows o y (interpret lending (with_some c r (λ e. store_to p c (Some (whole_local l)) (Truth e))) s) (mach c (suc (suc pc)) x2)) (sym e)
+      (λ e. subst (λ r. Follows o y (interpret lending (with_some c r (λ e. store_to p c (Some (whole_local l)) (Truth e))) s) (mach c (suc (suc pc)) x2))
+      (sym e)
       (leads_follows o y _ (mach c (suc (suc pc)) x2) (mach c (suc (suc (suc pc))) x3) u.leads
       (stores o y is c s (suc (suc (suc pc))) x3 k3 p l wl il (Truth (f m n)) (truth (f m n)) (flag (f m n) kind refl refl) u.puts.here has.1.1.1.0 at)))
-      (λ e. subst (λ r. Follows o y (interpret lending (with_some c r (λ e. store_to p c (Some (whole_local l)) (Truth e))) s) (mach c (suc (suc pc)) x2)) (sym e)
+      (λ e. subst (λ r. Follows o y (interpret lending (with_some c r (λ e. store_to p c (Some (whole_local l)) (Truth e))) s) (mach c (suc (suc pc)) x2))
+      (sym e)
       (wrong core.Stuck refl stuck))
       (gives (form y.frame.types ia.type) (form y.frame.types ib.type) v w m n sv sw)))

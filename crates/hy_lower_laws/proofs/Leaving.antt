@@ -1,5 +1,5 @@
 -- The end of `main`, which hands out a value without words.
-use Rattle.std.proofs.Common.{◌≡◌, ◌≢◌, ⊎_elim, ℕ, zero, suc, ◌+◌, ◌<◌, ◌≤◌, Bool, true, false, not, cond, List, [], ◌∷◌, ◌++◌, length, Option, Some, None, ℤ, refl, sym, ap, ◌∙◌, subst, arith, slice_get}
+use Rattle.std.proofs.Common.{◌≡◌, ⊎_elim, ℕ, suc, ◌+◌, ◌≤◌, Bool, true, not, cond, [], ◌∷◌, ◌++◌, length, Some, refl, sym, ap, ◌∙◌, subst, arith}
 use Rattle.std.proofs.lemmas.Bool.{cases_Bool}
 use Rattle.std.specs.Prelude.{if◌then◌else◌}
 use Rattle.hy_base.specs.declared.run.End.TheVariants as end
@@ -11,22 +11,21 @@ use Rattle.hy_core.specs.Memory.{target_of, lending}
 use Rattle.hy_core.specs.Memory as memory
 use Rattle.hy_core.specs.Runs.{Interaction, Fetch, Perform, interpret, Return}
 use Rattle.hy_core.specs.Runs as runs
-use Rattle.hy_core.specs.Control.{Control, Setting, with_some, with_set, key, local_type, NotSet, Ends, stop, form}
+use Rattle.hy_core.specs.Control.{Control, Setting, with_some, with_set, key, NotSet, Ends, stop, form}
 use Rattle.hy_core.specs.Statements.{does, close_all, back}
 use Rattle.hy_object.specs.declared.instr.Instr.TheVariants as instr
 use Rattle.hy_object.specs.declared.object.Object.{Object}
 use Rattle.hy_object.specs.declared.stuck.Kind.TheVariants as kind
 use Rattle.hy_object.specs.Checks.{check, own_words, may_write, is_whole as whole_range, ends, own_slot}
 use Rattle.hy_object.specs.Checks as checks
-use Rattle.hy_object.specs.Controls.{leave, returns, is_closed, is_open, leaves_none, goes_back, frees_frame}
-use Rattle.hy_object.specs.States.{Range, Called, State, Empty, nth, moved, within}
-use Rattle.hy_object.specs.Steps as steps
+use Rattle.hy_object.specs.Controls.{leave, returns, is_closed, is_open, leaves_none, frees_frame}
+use Rattle.hy_object.specs.States.{Called, State, moved, within}
 use Rattle.hy_lower.specs.Places.{own}
 use Rattle.hy_lower_laws.specs.WordSteps.{whole_local}
 use Rattle.hy_lower_laws.specs.Following.{IsNothing}
 use Rattle.hy_lower_laws.proofs.Stands.{HasAt}
-use Rattle.hy_lower_laws.proofs.OwnWords.{IsPlain, all_true, own_is, may_write_is}
-use Rattle.hy_lower_laws.proofs.Simulates.{Body, IsBody, CellIs, Linked, Over, mach, plain_of, Leads, leads_on, Follows, over, wrong, stuck, not_set}
+use Rattle.hy_lower_laws.proofs.OwnWords.{all_true, own_is, may_write_is}
+use Rattle.hy_lower_laws.proofs.Simulates.{Body, IsBody, CellIs, Linked, mach, plain_of, leads_on, Follows, over, wrong, not_set}
 use Rattle.hy_lower_laws.proofs.WordSteps.{one, linked_with}
 use Rattle.hy_lower_laws.proofs.Nothing.{moves_none, none_moves, typed}
 
@@ -45,7 +44,7 @@ return_is y is c s pc x k =
     let lost = λ (b : Bool). check m kind.Lost b last in
     let closed : is_closed m ≡ true = all_true m.now.fun.slots _ (λ i. ap (λ z. not (is_open z)) (k.slots i)) in
     let left : leaves_none m r.range ≡ true = all_true m.now.fun.words _
-        (λ at. ap (λ b. cond b (within r.range.from r.range.words at) true) (k.holds.nameless x.now.frame at)) in
+    (λ at. ap (λ b. cond b (within r.range.from r.range.words at) true) (k.holds.nameless x.now.frame at)) in
     ap (λ n. own_words m S n (λ x. check m kind.Access (may_write m x) (check m kind.Unset (whole_range m x.range) (returns m x m.now.role m.callers)))) e
     ∙ own_is m plain S 0 (λ x. check m kind.Access (may_write m x) (check m kind.Unset (whole_range m x.range) (returns m x m.now.role m.callers))) fits
     ∙ ap (λ b. check m kind.Access b (returns m r m.now.role m.callers)) (may_write_is m plain S 0)
@@ -56,7 +55,8 @@ return_is y is c s pc x k =
 
 -- what is left once the value is read: it is given up, and the run is done
 abbrev hands_out : Setting → Control → (l n : ℕ) → Val → Interaction Control
-hands_out p c l n v = Perform (runs.Clear (record { key = key c l; path = [] }) runs.Moved) (Perform (runs.Quit c.now.id n) (close_all c n (back p c c.callers v c.now.dest)))
+hands_out p c l n v = Perform (runs.Clear (record { key = key c l; path = [] }) runs.Moved) (Perform (runs.Quit c.now.id n) (close_all c n (back p c
+    c.callers v c.now.dest)))
 
 module _ (o : Object) (y : Body) (is : IsBody y) (p : Setting) (c : Control) (s : memory.Cells) (pc : ℕ) (x : State) (k : Linked y c s x) where
   read_is : (l w : ℕ) (none : IsNothing y.frame l w) → interpret lending (does p c (plain.Leave (whole_local l))) s
@@ -93,8 +93,8 @@ module _ (o : Object) (y : Body) (is : IsBody y) (p : Setting) (c : Control) (s 
         nameless = λ block at. ap checks.is_name (same block at) ∙ k.holds.nameless block at;
       }) in
       let lead = leads_on o (mach c pc x) (mach c (suc pc) x1) (ends (frees_frame (mach c (suc pc) x1)) end.Done)
-          (moves_none o y is p c s pc x k S w (omega arith) fits has.0)
-          (one o y is c s (suc pc) x1 k1 (ends (frees_frame (mach c (suc pc) x1)) end.Done) (instr.Return S) has.1.0 (return_is y is c s (suc pc) x1 k1)) in
+      (moves_none o y is p c s pc x k S w (omega arith) fits has.0)
+      (one o y is c s (suc pc) x1 k1 (ends (frees_frame (mach c (suc pc) x1)) end.Done) (instr.Return S) has.1.0 (return_is y is c s (suc pc) x1 k1)) in
       subst (λ r. Follows o y r (mach c pc x)) (sym (read_is l w none))
       (⊎_elim
       (λ e. subst (λ b. Follows o y (interpret lending (if b then hands_out p c l n v else stop c NotSet) s) (mach c pc x)) (sym e)

@@ -1,5 +1,6 @@
 -- The lengths of segments.
-use Rattle.std.proofs.Common.{◌≡◌, ℕ, zero, suc, ◌+◌, Bool, true, false, List, [], ◌∷◌, ◌++◌, length, Option, Some, None, ℤ, refl, sym, ap, ◌∙◌, arith, length-append}
+use Rattle.std.proofs.Common.{◌≡◌, ℕ, zero, suc, ◌+◌, Bool, true, false, List, [], ◌∷◌, ◌++◌, length, Option, Some, None, ℤ, refl, ap, ◌∙◌, arith}
+use Rattle.std.proofs.Common.{length-append}
 use Rattle.hy_types.specs.declared.kinds.TyId.{TyId}
 use Rattle.hy_core.specs.Plain.{Step, Part, Index, Operator, Add, Sub, Mul, Div, Rem, Neg, Convert, Eq, Lt, Le, Not, NewArray, Push, Pop, Swap, Count}
 use Rattle.hy_core.specs.Plain.{FreeArray, Print, Read, Check, Stmts, Done, Then, Stmt, Built, Set, Lend, Close, Move, Copy, Drop, Call, Project, Slide}
@@ -16,10 +17,10 @@ use Rattle.hy_lower.specs.declared.body.Home.{Home}
 use Rattle.hy_lower.specs.declared.body.Home.TheVariants.{Words, Slot}
 use Rattle.hy_lower.specs.declared.body.Line.{Line}
 use Rattle.hy_lower.specs.Frames.{Frame, indexes, on_the_way, home_of, slot_of}
-use Rattle.hy_lower.specs.Places.{rest, here, place, own, place_at, opens, opens_after, closes, at, through, line_for, part_at, part_after, element_at}
+use Rattle.hy_lower.specs.Places.{rest, here, place, own, opens, opens_after, closes, at, through, line_for, part_at, part_after, element_at}
 use Rattle.hy_lower.specs.Places.{place_size, element_size, type_of, reached}
-use Rattle.hy_lower.specs.Segments.{loads, moves, stores, computes, scalar, built, push, pop, swap, count, free_array, new_array, constant, set, move, copy}
-use Rattle.hy_lower.specs.Segments.{frees, drop, last, lend, lend_to, close, close_in, call, project, leave, read, take, write, test, way_of, first_slot}
+use Rattle.hy_lower.specs.Segments.{loads, moves, stores, computes, scalar, built, push, pop, swap, count, free_array, new_array, constant}
+use Rattle.hy_lower.specs.Segments.{frees, last, lend_to, close_in, read, take, write, test, way_of, first_slot}
 use Rattle.hy_lower.specs.Segments.{span_at}
 use Rattle.hy_lower.specs.Code.{through_length, loads_length, stores_length, through_some, change_length, give_length, first_length, scalar_length}
 use Rattle.hy_lower.specs.Code.{built_length, constant_length, last_length, lend_length, close_length, length_all, length_of, code_all, code_of}
@@ -91,7 +92,8 @@ module _ (b : Frame) where
   push_is [] = refl
   push_is (p ∷ ps) = let grow = instr.Grow (at b p) (element_size b p) in
       let push = instr.Push (at b p) b.scratch (element_size b p) in
-      two (moves b b.scratch ps) (through b way.Write p (grow ∷ push ∷ [])) (loads_length ps) (through_length p 2) (moves_are b.scratch ps) (two_at way.Write p grow push)
+      two (moves b b.scratch ps) (through b way.Write p (grow ∷ push ∷ [])) (loads_length ps) (through_length p 2) (moves_are b.scratch ps) (two_at
+      way.Write p grow push)
 
   swap_is : (from : List core.Place) (spans : List ℕ) → length (swap b from spans) ≡ change_length from 1
   swap_is [] spans = refl
@@ -169,7 +171,8 @@ module _ (b : Frame) where
         (takes_are from b.scratch) (writes_are to b.scratch)
     one_is pc after again (Copy to from) = two (read b from b.scratch) (write b to b.scratch) (through_length from 1) (through_length to 1)
         (reads_are from b.scratch) (writes_are to b.scratch)
-    one_is pc after again (Drop p) = passes way.Write p (frees (at b p) (arrays_in b.types b.sizes (type_of b p))) (length (arrays_in b.types b.sizes (type_of b p)))
+    one_is pc after again (Drop p) = passes way.Write p (frees (at b p) (arrays_in b.types b.sizes (type_of b p))) (length (arrays_in b.types b.sizes
+        (type_of b p)))
         (frees_length (at b p) (arrays_in b.types b.sizes (type_of b p)))
     one_is pc after again (Call n lent owned to) =
         let m = moves_are b.scratch owned in

@@ -1,8 +1,6 @@
 -- Locals without words: what is stored to them, and the end of `main`, which hands out such a value.
-use Rattle.std.proofs.Common.{◌≡◌, ◌≢◌, ℕ, zero, suc, ◌+◌, ◌<◌, ◌≤◌, Bool, true, false, not, cond, List, [], ◌∷◌, ◌++◌, length, Option, Some, None, ℤ, refl, sym, ap, ◌∙◌, subst, arith, slice_get}
-use Rattle.std.proofs.lemmas.Bool.{cond_both, and_from, le-leb, true≢false}
-use Rattle.std.specs.Prelude.{if◌then◌else◌}
-use Rattle.hy_base.specs.declared.run.End.TheVariants as end
+use Rattle.std.proofs.Common.{◌≡◌, ℕ, suc, ◌+◌, ◌≤◌, Bool, false, not, [], ◌++◌, Some, ℤ, refl, sym, ap, ◌∙◌, subst, arith, slice_get}
+use Rattle.std.proofs.lemmas.Bool.{cond_both}
 use Rattle.hy_core.specs.Plain as plain
 use Rattle.hy_core.specs.Plain.{lent_types}
 use Rattle.hy_core.specs.Values.{Val, is_whole}
@@ -11,28 +9,22 @@ use Rattle.hy_core.specs.Memory.{Key, key_eq, set_at, target_of, lending}
 use Rattle.hy_core.specs.Memory as memory
 use Rattle.hy_core.specs.Runs.{Interaction, Fetch, Perform, interpret, Return}
 use Rattle.hy_core.specs.Runs as runs
-use Rattle.hy_core.specs.Control.{Control, Setting, Activation, form, with_some, with_set, key, read, take, write, local_type, NotSet, stop}
-use Rattle.hy_core.specs.Control as core
-use Rattle.hy_core.specs.Statements.{does, constant, close_all, back}
+use Rattle.hy_core.specs.Control.{Control, Setting, form, with_some, key, local_type}
+use Rattle.hy_core.specs.Statements.{does, constant}
 use Rattle.hy_object.specs.declared.instr.Instr.TheVariants as instr
 use Rattle.hy_object.specs.declared.object.Object.{Object}
 use Rattle.hy_object.specs.declared.stuck.Kind.TheVariants as kind
 use Rattle.hy_object.specs.Checks.{Reach, check, is_name, next, meets, transfers, own_words, may_write, is_whole as whole_range, is_nameless, ends, frees}
 use Rattle.hy_object.specs.Checks as checks
-use Rattle.hy_object.specs.Controls.{leave, returns, is_closed, is_open, leaves_none, goes_back, frees_frame}
-use Rattle.hy_object.specs.States.{Cell, Unset, Range, Role, Called, State, Ended, Slot, Empty, nth, with_cells, window, moved, within, all_below}
-use Rattle.hy_object.specs.States as states
+use Rattle.hy_object.specs.States.{Unset, Range, State, nth, with_cells, window, moved}
 use Rattle.hy_object.specs.Words.{move}
-use Rattle.hy_lower.specs.declared.body.Home.TheVariants.{Words}
-use Rattle.hy_lower.specs.Frames.{Frame, home_of, size_of}
-use Rattle.hy_lower.specs.Places.{own, place_at, size_at}
-use Rattle.hy_lower.specs.Segments as segment
+use Rattle.hy_lower.specs.Places.{own, size_at}
 use Rattle.hy_lower_laws.specs.WordSteps.{whole_local}
 use Rattle.hy_lower_laws.specs.Following.{IsNothing}
-use Rattle.hy_lower_laws.proofs.Stands.{HasAt, At}
-use Rattle.hy_lower_laws.proofs.OwnWords.{IsPlain, at_cells, all_true, own_is, may_write_is}
-use Rattle.hy_lower_laws.proofs.Simulates.{Body, IsBody, IsWord, Cells, CellIs, Holds, Linked, Over, mach, plain_of, Leads, leads_on, leads_one, Follows, goes_on, over, wrong, stuck, not_set, leads_follows}
-use Rattle.hy_lower_laws.proofs.WordSteps.{one, owned, linked_with}
+use Rattle.hy_lower_laws.proofs.Stands.{At}
+use Rattle.hy_lower_laws.proofs.OwnWords.{IsPlain, at_cells, own_is, may_write_is}
+use Rattle.hy_lower_laws.proofs.Simulates.{Body, IsBody, Cells, CellIs, Holds, Linked, mach, plain_of, Leads, Follows, goes_on}
+use Rattle.hy_lower_laws.proofs.WordSteps.{one}
 use Rattle.hy_lower_laws.proofs.Scalars.{key_from}
 
 -- a move of no words
@@ -44,9 +36,11 @@ move_none m plain to from l k =
     let t = transfers (next m) y.range x.range in
     let used = λ (b : Bool). check m kind.Access b t in
     own_is m plain to 0 (λ x. check m kind.Access (may_write m x) (checks.reach m (own from) 0 (λ y. check m kind.Range (not (meets x.range y.range))
-    (check m kind.Access (may_write m y) (check m kind.Unset (whole_range m y.range) (check m kind.Lost (is_nameless m x.range) (transfers (next m) y.range x.range))))))) l
+    (check m kind.Access (may_write m y) (check m kind.Unset (whole_range m y.range) (check m kind.Lost (is_nameless m x.range) (transfers (next m) y.range
+    x.range))))))) l
     ∙ ap (λ b. check m kind.Access b (checks.reach m (own from) 0 (λ y. check m kind.Range (not (meets x.range y.range))
-    (check m kind.Access (may_write m y) (check m kind.Unset (whole_range m y.range) (check m kind.Lost (is_nameless m x.range) (transfers (next m) y.range x.range))))))) (may_write_is m plain to 0)
+    (check m kind.Access (may_write m y) (check m kind.Unset (whole_range m y.range) (check m kind.Lost (is_nameless m x.range) (transfers (next m) y.range
+    x.range))))))) (may_write_is m plain to 0)
     ∙ own_is m plain from 0 (λ y. check m kind.Range (not (meets x.range y.range)) (check m kind.Access (may_write m y)
     (check m kind.Unset (whole_range m y.range) (check m kind.Lost (is_nameless m x.range) (transfers (next m) y.range x.range))))) k
     ∙ ap (λ b. check m kind.Range (not b) (used (may_write m y))) apart
@@ -55,7 +49,8 @@ move_none m plain to from l k =
     apart : meets (checks.own m to 0).range (checks.own m from 0).range ≡ false
     apart = grind arith
 
-pub none_moves : (cells : Cells) (b f t block at : ℕ) → moved cells (record { block = b; from = f; words = 0 }) (record { block = b; from = t; words = 0 }) block at ≡ cells block at
+pub none_moves : (cells : Cells) (b f t block at : ℕ) → moved cells (record { block = b; from = f; words = 0 }) (record { block = b; from = t; words = 0 })
+    block at ≡ cells block at
 none_moves cells b f t block at =
     let y : Range = record { block = b; from = f; words = 0 } in
     let x : Range = record { block = b; from = t; words = 0 } in
@@ -82,8 +77,10 @@ module _ (o : Object) (y : Body) (is : IsBody y) (p : Setting) (c : Control) (s 
 
   -- no words are moved
   pub moves_none : (to from : ℕ) → to ≤ y.object.words → from ≤ y.object.words → nth y.object.code pc ≡ Some (instr.Move (own to) (own from) 0)
-      → Leads o (mach c pc x) (mach c (suc pc) (record x { cells = moved x.cells (record { block = x.now.frame; from = from; words = 0 })
-      (record { block = x.now.frame; from = to; words = 0 }) }))
+      → Leads o (mach c pc x) (mach c (suc pc) (record x {
+        cells = moved x.cells (record { block = x.now.frame; from = from; words = 0 })
+            (record { block = x.now.frame; from = to; words = 0 });
+      }))
   moves_none to from l m h =
       one o y is c s pc x k _ (instr.Move (own to) (own from) 0) h
       (move_none (mach c pc x) (plain_of y c s pc x k) to from
@@ -107,7 +104,18 @@ module _ (o : Object) (y : Body) (is : IsBody y) (p : Setting) (c : Control) (s 
       let new = moved x.cells (record { block = x.now.frame; from = y.frame.scratch; words = 0 }) (record { block = x.now.frame; from = w; words = 0 }) in
       subst (λ r. Follows o y r (mach c pc x)) (sym (set_is l w none n v e))
       (goes_on (suc pc) (record x { cells = new })
-      (record { going = k.going; stop = k.stop; core = k.core; object = k.object; closed = k.closed; own = k.own;
-        holds = holds_with l w none v new (none_moves x.cells x.now.frame y.frame.scratch w); turns = k.turns;
-        core_alone = k.core_alone; alone = k.alone; role = k.role; slots = k.slots })
+      (record {
+        going = k.going;
+        stop = k.stop;
+        core = k.core;
+        object = k.object;
+        closed = k.closed;
+        own = k.own;
+        holds = holds_with l w none v new (none_moves x.cells x.now.frame y.frame.scratch w);
+        turns = k.turns;
+        core_alone = k.core_alone;
+        alone = k.alone;
+        role = k.role;
+        slots = k.slots;
+      })
       at (moves_none w y.frame.scratch fits (omega arith) has))

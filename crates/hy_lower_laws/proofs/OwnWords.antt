@@ -1,18 +1,15 @@
 -- Instructions on words of the own frame, where no access is open and no word of the frame is the name of a block.
-use Rattle.std.proofs.Common.{◌≡◌, ◌≢◌, ℕ, zero, suc, ◌+◌, ◌-◌, ◌<◌, ◌≤◌, ◌&&◌, Bool, true, false, not, cond, ltb, eqb, List, [], ◌∷◌, Option, Some, None, ℤ, refl, sym, ap, ◌∙◌, arith}
-use Rattle.std.proofs.lemmas.Bool.{le-leb, lt-ltb, ltb-true, eqb-true, eq-eqb, ne_eqb, cond_both, and_parts, and_from, true≢false}
+use Rattle.std.proofs.Common.{◌≡◌, ◌≢◌, ℕ, zero, suc, ◌+◌, ◌-◌, ◌<◌, ◌≤◌, ◌&&◌, Bool, true, false, not, ltb, eqb, None, ℤ, refl, sym, ap, ◌∙◌, arith}
+use Rattle.std.proofs.lemmas.Bool.{le-leb, lt-ltb, ltb-true, eqb-true, eq-eqb, cond_both, and_parts, and_from, true≢false}
 use Rattle.std.specs.Prelude.{neg_ℤ}
-use Rattle.hy_object.specs.declared.instr.Instr.{Instr}
-use Rattle.hy_object.specs.declared.instr.Instr.TheVariants as instr
 use Rattle.hy_object.specs.declared.object.Object.{Object}
 use Rattle.hy_object.specs.declared.stuck.Kind.TheVariants as kind
-use Rattle.hy_object.specs.declared.instr.Way.TheVariants as way
-use Rattle.hy_object.specs.Checks.{Reach, check, next, is_set, is_name, is_whole, is_nameless, may_read, may_write, meets, own_words, read_word, to_word, word_in, puts}
+use Rattle.hy_object.specs.Checks.{Reach, check, next, is_set, is_name, is_whole, is_nameless, may_read, may_write, meets, own_words, read_word, to_word}
+use Rattle.hy_object.specs.Checks.{word_in, puts}
 use Rattle.hy_object.specs.Checks.{store, transfers, only, lets_read, lets_write}
 use Rattle.hy_object.specs.Checks as checks
-use Rattle.hy_object.specs.States.{Cell, Unset, Word, Name, Cells, Range, State, nth, with_cells, window, within, all_below}
+use Rattle.hy_object.specs.States.{Cell, Word, Cells, Range, State, with_cells, window, within, all_below}
 use Rattle.hy_object.specs.Words.{Computed, computed, const, calculate, negate, compare, invert, copy, move, truth, is_zero, fitting}
-use Rattle.hy_object.specs.Steps.{does}
 use Rattle.hy_lower.specs.Places.{own}
 
 -- TABLES

@@ -1,5 +1,5 @@
 -- A number or truth value is read from a local to a scratch word, and stored from there to a local.
-use Rattle.std.proofs.Common.{◌≡◌, ◌≢◌, ◌⊎◌, inl, inr, ⊎_elim, ℕ, zero, suc, ◌+◌, ◌<◌, ◌≤◌, eqb, Bool, true, false, List, [], ◌∷◌, ◌++◌, Option, Some, None, ℤ, refl, sym, ap, ◌∙◌, subst, arith, slice_get}
+use Rattle.std.proofs.Common.{◌≡◌, ⊎_elim, ℕ, suc, ◌+◌, ◌≤◌, eqb, Bool, true, [], ◌++◌, Some, ℤ, refl, sym, ap, ◌∙◌, subst, arith, slice_get}
 use Rattle.std.proofs.lemmas.Bool.{cond_both, and_parts, eqb-true, and_from, eq-eqb, cases_eq, true≢false}
 use Rattle.hy_base.specs.declared.numbers.IntegerType.TheVariants.{Int, Sized}
 use Rattle.hy_types.specs.declared.kinds.TyId.{TyId}
@@ -10,18 +10,18 @@ use Rattle.hy_core.specs.Memory.{Key, key_eq, set_at, target_of, lending}
 use Rattle.hy_core.specs.Memory as memory
 use Rattle.hy_core.specs.Runs.{Interaction, Fetch, Perform, Return, interpret}
 use Rattle.hy_core.specs.Runs as runs
-use Rattle.hy_core.specs.Control.{Control, Setting, NotSet, key, read, take, write, with_some, with_set, local_type, Form, Numbers, Flags, form}
+use Rattle.hy_core.specs.Control.{Control, Setting, NotSet, key, read, write, with_some, with_set, local_type, Form, Numbers, Flags, form}
 use Rattle.hy_object.specs.declared.instr.Instr.TheVariants as instr
 use Rattle.hy_object.specs.declared.object.Object.{Object}
 use Rattle.hy_object.specs.Checks.{is_name, is_set}
-use Rattle.hy_object.specs.States.{Cell, Unset, Word, State, nth}
+use Rattle.hy_object.specs.States.{Word, State, nth}
 use Rattle.hy_object.specs.Words.{truth}
-use Rattle.hy_lower.specs.declared.body.Home.TheVariants.{Words, Slot}
+use Rattle.hy_lower.specs.declared.body.Home.TheVariants.{Words}
 use Rattle.hy_lower.specs.Frames.{home_of}
 use Rattle.hy_lower.specs.Places.{own}
 use Rattle.hy_lower_laws.proofs.Stands.{At}
-use Rattle.hy_lower_laws.proofs.Simulates.{Body, IsBody, IsWord, Cells, CellIs, Holds, Linked, mach, Leads, Follows, goes_on, wrong, not_set, leads_follows}
-use Rattle.hy_lower_laws.proofs.WordSteps.{Puts, Shifts, Writes, Carries, copy_writes, move_carries, linked_with, scratch_put}
+use Rattle.hy_lower_laws.proofs.Simulates.{Body, IsBody, IsWord, Cells, CellIs, Holds, Linked, mach, Follows, goes_on, wrong, not_set, leads_follows}
+use Rattle.hy_lower_laws.proofs.WordSteps.{Shifts, Writes, copy_writes, move_carries, scratch_put}
 
 -- a number or truth value of that form, and its word
 pub data Scalar (f : Form) (v : Val) (n : ℤ) : Type 0 where
@@ -67,12 +67,16 @@ module _ (o : Object) (y : Body) (is : IsBody y) (c : Control) (s : memory.Cells
   -- A local is read to a scratch word: the core goes on with its value, and the machine with that word.
   pub loads : (p : Setting) (l w to : ℕ) (word : IsWord y.frame l w) → y.frame.scratch ≤ to → to + 1 ≤ y.object.words
       → nth y.object.code pc ≡ Some (instr.Copy (own to) (own w) 1) → (go : Control → Val → Interaction Control)
-      → ((v : Val) (n : ℤ) → Scalar (form y.frame.types word.type) v n → (r : Writes o y is c s pc x k to (Word n)) → Linked y c s (record x { cells = r.cells })
+      → ((v : Val) (n : ℤ) → Scalar (form y.frame.types word.type) v n → (r : Writes o y is c s pc x k to (Word n)) → Linked y c s (record x {
+        cells =
+            r.cells;
+      })
       → Follows o y (interpret lending (go c v) s) (mach c (suc pc) (record x { cells = r.cells })))
       → Follows o y (interpret lending (read p c (whole_local l) go) s) (mach c pc x)
   loads p l w to word le fits has go rest = by (s.cell (key c l)) refl (k.holds.words l w word)
     where
-      goes : (v : Val) (n : ℤ) → Scalar (form y.frame.types word.type) v n → x.cells x.now.frame w ≡ Word n → Follows o y (interpret lending (go c v) s) (mach c pc x)
+      goes : (v : Val) (n : ℤ) → Scalar (form y.frame.types word.type) v n → x.cells x.now.frame w ≡ Word n → Follows o y (interpret lending (go c v) s)
+          (mach c pc x)
       goes v n scalar d =
           let r = subst (Writes o y is c s pc x k to) d (copy_writes o y is c s pc x k to w fits (in_frame l w word) (ap is_set d) has) in
           leads_follows o y (interpret lending (go c v) s) (mach c pc x) (mach c (suc pc) (record x { cells = r.cells })) r.leads
@@ -82,7 +86,8 @@ module _ (o : Object) (y : Body) (is : IsBody y) (c : Control) (s : memory.Cells
           → Follows o y (interpret lending (read p c (whole_local l) go) s) (mach c pc x)
       after v e f = subst (λ r. Follows o y r (mach c pc x)) (sym (read_is p l w word go v e)) f
 
-      by : (v : Val) → s.cell (key c l) ≡ v → CellIs (form y.frame.types word.type) v (x.cells x.now.frame w) → Follows o y (interpret lending (read p c (whole_local l) go) s) (mach c pc x)
+      by : (v : Val) → s.cell (key c l) ≡ v → CellIs (form y.frame.types word.type) v (x.cells x.now.frame w) → Follows o y (interpret lending (read p c
+          (whole_local l) go) s) (mach c pc x)
       by val.Unset e d = after val.Unset e (wrong NotSet refl not_set)
       by (Number Int n) e d = after (Number Int n) e (goes (Number Int n) n (number d.1 refl) d.0)
       by (Number (Sized num) n) e d = absurd d
@@ -95,7 +100,10 @@ module _ (o : Object) (y : Body) (is : IsBody y) (c : Control) (s : memory.Cells
   pub fetches : (l w to : ℕ) (word : IsWord y.frame l w) → y.frame.scratch ≤ to → to + 1 ≤ y.object.words
       → nth y.object.code pc ≡ Some (instr.Copy (own to) (own w) 1) → (go : Val → Interaction Control)
       → Follows o y (interpret lending (go val.Unset) s) (mach c pc x)
-      → ((v : Val) (n : ℤ) → Scalar (form y.frame.types word.type) v n → (r : Writes o y is c s pc x k to (Word n)) → Linked y c s (record x { cells = r.cells })
+      → ((v : Val) (n : ℤ) → Scalar (form y.frame.types word.type) v n → (r : Writes o y is c s pc x k to (Word n)) → Linked y c s (record x {
+        cells =
+            r.cells;
+      })
       → Follows o y (interpret lending (go v) s) (mach c (suc pc) (record x { cells = r.cells })))
       → Follows o y (interpret lending (Fetch (memory.whole (key c l)) go) s) (mach c pc x)
   fetches l w to word le fits has go unset rest = by (s.cell (key c l)) refl (k.holds.words l w word)
@@ -147,7 +155,8 @@ module _ (o : Object) (y : Body) (is : IsBody y) (c : Control) (s : memory.Cells
         (λ e. let other : u ≡ w → ⊥ = λ q. true≢false (sym (key_to (key c a) (key c l) refl
         (is.apart a l w (subst (IsWord y.frame a) q is_word) word)) ∙ e) in
         let b = is.below a u is_word in
-        subst (CellIs (form y.frame.types is_word.type) (s.cell (key c a))) (sym (f.there x.now.frame u (λ _ q. other q) (λ _ q. omega arith))) (k.holds.words a u is_word));
+        subst (CellIs (form y.frame.types is_word.type) (s.cell (key c a))) (sym (f.there x.now.frame u (λ _ q. other q) (λ _ q. omega arith)))
+        (k.holds.words a u is_word));
     nameless = λ block at. ⊎_elim
         (λ e. ⊎_elim
         (λ q. ap is_name (ap (λ b. new b at) e ∙ ap (new x.now.frame) q ∙ f.here ∙ d))
@@ -160,7 +169,8 @@ module _ (o : Object) (y : Body) (is : IsBody y) (c : Control) (s : memory.Cells
   }
 
   -- The value of the first scratch word is stored to a local, and both go on.
-  pub stores : (p : Setting) (l w : ℕ) (word : IsWord y.frame l w) (v : Val) (n : ℤ) → Scalar (form y.frame.types word.type) v n → x.cells x.now.frame y.frame.scratch ≡ Word n
+  pub stores : (p : Setting) (l w : ℕ) (word : IsWord y.frame l w) (v : Val) (n : ℤ) → Scalar (form y.frame.types word.type) v n → x.cells x.now.frame
+      y.frame.scratch ≡ Word n
       → nth y.object.code pc ≡ Some (instr.Move (own w) (own y.frame.scratch) 1) → At y.frame y.object.code (suc pc) c.now.work
       → Follows o y (interpret lending (write p c (whole_local l) v Return) s) (mach c pc x)
   stores p l w word v n scalar d has at =
@@ -170,5 +180,19 @@ module _ (o : Object) (y : Body) (is : IsBody y) (c : Control) (s : memory.Cells
       let t : memory.Cells = record { refers = s.refers; cell = set_at s.cell (key c l) v } in
       subst (λ r. Follows o y r (mach c pc x)) (sym (write_is p l w word v Return))
       (goes_on (suc pc) (record x { cells = r.cells })
-      (record { going = k.going; stop = k.stop; core = k.core; object = k.object; closed = k.closed; own = k.own; holds = stored l w word v n scalar d r.cells r.shifts; turns = k.turns; core_alone = k.core_alone; alone = k.alone; role = k.role; slots = k.slots })
+      (record {
+        going = k.going;
+        stop = k.stop;
+        core = k.core;
+        object = k.object;
+        closed = k.closed;
+        own = k.own;
+        holds = stored l w word v n scalar d
+            r.cells r.shifts;
+        turns = k.turns;
+        core_alone = k.core_alone;
+        alone = k.alone;
+        role = k.role;
+        slots = k.slots;
+      })
       at r.leads)

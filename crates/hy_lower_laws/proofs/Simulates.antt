@@ -1,28 +1,17 @@
 -- The machine follows the core: its state is built from the core's and from what it has besides.
-use Rattle.std.proofs.Common.{◌≡◌, ◌≢◌, ℕ, zero, suc, ◌+◌, ◌<◌, ◌≤◌, Bool, true, false, cond, List, [], ◌∷◌, ◌++◌, Option, Some, None, ℤ, refl, sym, ap, ◌∙◌, subst, arith, slice_get}
+use Rattle.std.proofs.Common.{◌≡◌, ℕ, zero, suc, ◌+◌, cond, Some, None, refl, ap, ◌∙◌, arith}
 use Rattle.std.proofs.lemmas.Bool.{lt-ltb}
-use Rattle.hy_base.specs.declared.numbers.IntegerType.TheVariants.{Int, Sized}
-use Rattle.hy_base.specs.declared.run.End.{End}
-use Rattle.hy_core.specs.Plain.{Fun}
-use Rattle.hy_core.specs.Values.{Val, Number, Truth, Tuple, Product, Array}
-use Rattle.hy_core.specs.Values as val
 use Rattle.hy_core.specs.Memory as memory
 use Rattle.hy_core.specs.Runs as runs
-use Rattle.hy_core.specs.Control.{Control, Halt, Ends, NotSet, NotOpened, key, Work, Form, Numbers, Flags, form}
-use Rattle.hy_core.specs.Control as core
+use Rattle.hy_core.specs.Control.{Control}
 use Rattle.hy_object.specs.declared.instr.Instr.{Instr}
 use Rattle.hy_object.specs.declared.instr.Instr.TheVariants as instr
-use Rattle.hy_object.specs.declared.object.Fun as object
 use Rattle.hy_object.specs.declared.object.Object.{Object}
-use Rattle.hy_object.specs.Checks.{is_name, take_turn, goes_to}
-use Rattle.hy_types.specs.declared.kinds.TyId.{TyId}
-use Rattle.hy_object.specs.States.{Cell, Word, State, Stop, Ended, nth}
-use Rattle.hy_object.specs.Controls.{jump}
-use Rattle.hy_object.specs.Words.{truth}
+use Rattle.hy_object.specs.Checks.{take_turn, goes_to}
+use Rattle.hy_object.specs.States.{State, nth}
 use Rattle.hy_object.specs.Steps.{does, does_some, step_from, step, steps}
-use Rattle.hy_lower.specs.declared.body.Home.TheVariants.{Words, Slot}
-use Rattle.hy_lower.specs.Frames.{Frame, home_of, size_of}
-pub use Rattle.hy_lower_laws.specs.Following.{Leads, mach, CellIs, IsWord, Body, IsBody, Cells, Holds, Linked, Over, IsWrong, stuck, not_set, not_opened, Follows}
+pub use Rattle.hy_lower_laws.specs.Following.{Leads, mach, CellIs, IsWord, Body, IsBody, Cells, Holds, Linked, Over, IsWrong, stuck, not_set, not_opened}
+pub use Rattle.hy_lower_laws.specs.Following.{Follows}
 pub use Rattle.hy_lower_laws.specs.Following.{goes_on, over, wrong}
 use Rattle.hy_lower_laws.proofs.Stands.{Goes, Hops, At}
 use Rattle.hy_lower_laws.proofs.OwnWords.{IsPlain}
@@ -64,4 +53,5 @@ hops_lead o y c s x k (suc n) pc t h =
 -- after a stretch of code, with the jumps that may follow it
 pub settles : (o : Object) (y : Body) (r : runs.State Control memory.Cells) (m : State) (pc end : ℕ) (x : State) → Linked y r.control r.memory x
     → Goes y.object.code pc end → At y.frame y.object.code end r.control.now.work → Leads o m (mach r.control pc x) → Follows o y r m
-settles o y r m pc end x k g a l = goes_on end x k a (leads_on o m (mach r.control pc x) (mach r.control end x) l (hops_lead o y r.control r.memory x k g.count pc end g.hops))
+settles o y r m pc end x k g a l = goes_on end x k a (leads_on o m (mach r.control pc x) (mach r.control end x) l (hops_lead o y r.control r.memory x k
+    g.count pc end g.hops))

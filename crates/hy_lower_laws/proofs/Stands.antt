@@ -1,6 +1,6 @@
 -- Where the code of what is left of a body stands.
-use Rattle.std.proofs.Common.{◌≡◌, ℕ, zero, suc, ◌+◌, ◌<◌, ◌≤◌, List, [], ◌∷◌, ◌++◌, length, Option, Some, None, refl, sym, ap, ◌∙◌, subst, arith, length-append}
-use Rattle.hy_core.specs.Plain.{Stmts, Done, Then, Stmt, If, While, Break, Continue}
+use Rattle.std.proofs.Common.{◌≡◌, ℕ, zero, suc, ◌+◌, ◌<◌, ◌≤◌, List, [], ◌∷◌, ◌++◌, length, Some, refl, sym, subst, arith}
+use Rattle.hy_core.specs.Plain.{Stmts, Then, Stmt, If, While}
 use Rattle.hy_core.specs.Control.{Work, Idle, Rest, Loop, Test, Drops}
 use Rattle.hy_core.specs.Statements.{broken, continued}
 use Rattle.hy_object.specs.declared.instr.Instr.{Instr}

@@ -1,15 +1,14 @@
 -- Whole runs of `main`: after each number of steps of the core there is a number of instructions of the machine.
-use Rattle.std.proofs.Common.{◌≡◌, ◌≢◌, ℕ, zero, suc, ◌+◌, ◌-◌, Bool, List, [], ◌∷◌, ◌++◌, length, Option, Some, None, refl, sym, ap, ◌∙◌, subst, arith, slice_get}
+use Rattle.std.proofs.Common.{◌≡◌, ℕ, zero, suc, ◌+◌, ◌-◌, Bool, List, [], ◌∷◌, length, Some, None, refl, sym, ap, ◌∙◌, subst, arith, slice_get}
 use Rattle.hy_base.specs.declared.run.End.TheVariants as end
 use Rattle.hy_core.specs.Plain.{Fun, Core}
 use Rattle.hy_core.specs.Memory.{lending, copying, no_cells, no_copies}
 use Rattle.hy_core.specs.Memory as memory
 use Rattle.hy_core.specs.Runs.{interpret, Return}
 use Rattle.hy_core.specs.Runs as runs
-use Rattle.hy_core.specs.Control.{Control, GivesUp, Setting, Halt, Ends, Work, Rest, Idle}
-use Rattle.hy_core.specs.Control as core
+use Rattle.hy_core.specs.Control.{Control, GivesUp, Setting, Halt, Ends}
 use Rattle.hy_core.specs.Statements.{interaction, interaction_of, start, begins_with}
-use Rattle.hy_core.specs.Meaning.{Run, Report, report, lent, setting, state}
+use Rattle.hy_core.specs.Meaning.{Run, report, setting, state}
 use Rattle.hy_core.specs.Shaped.{Shaped}
 use Rattle.hy_core.specs.Flow.{HasFlow}
 use Rattle.hy_core.proofs.Stuck.{never_stuck}
@@ -18,17 +17,15 @@ use Rattle.hy_core.proofs.States.{ready_states}
 use Rattle.hy_object.specs.declared.instr.Instr.{Instr}
 use Rattle.hy_object.specs.declared.instr.Instr.TheVariants as instr
 use Rattle.hy_object.specs.declared.object.Object.{Object}
-use Rattle.hy_object.specs.Checks.{ends}
-use Rattle.hy_object.specs.States.{State, Called, nth}
+use Rattle.hy_object.specs.States.{State, nth}
 use Rattle.hy_object.specs.Steps as steps
-use Rattle.hy_object.specs.Runs.{after}
 use Rattle.hy_lower.specs.Code.{fun_of, code_all, length_all}
 use Rattle.hy_lower.specs.Frames.{frame_of}
 use Rattle.hy_lower.specs.Examples.{reported, halted}
 use Rattle.hy_lower_laws.specs.WordSteps.{IsWordWork, SameSpans}
-use Rattle.hy_lower_laws.specs.WordRuns.{main_body, IsWordRun, WordRunsAgree}
-use Rattle.hy_lower_laws.proofs.Stands.{HasAt, At, has_front, stay}
-use Rattle.hy_lower_laws.proofs.Simulates.{Body, IsBody, Linked, Over, IsWrong, stuck, not_set, not_opened, mach, Leads, leads_none, Follows, goes_on, over, wrong, leads_follows}
+use Rattle.hy_lower_laws.specs.WordRuns.{main_body, WordRunsAgree}
+use Rattle.hy_lower_laws.proofs.Stands.{HasAt, has_front, stay}
+use Rattle.hy_lower_laws.proofs.Simulates.{Body, IsBody, IsWrong, stuck, not_set, not_opened, mach, leads_none, Follows, goes_on, over, wrong, leads_follows}
 use Rattle.hy_lower_laws.proofs.Following.{word_steps_follow}
 
 -- all code stands at its beginning
@@ -114,12 +111,12 @@ met o y input r m (goes_on pc x k at l) fine =
     let turns : x.counts.turns ≡ y.turns - c.turns = omega arith in
     let halt : halted x.stop ≡ c.halt = ap halted k.stop ∙ sym k.going in
     let shows : reported input (mach c pc x) ≡ report input y.turns c = λ i. record {
-        output = c.output;
-        halt = halt i;
-        taken = length input - length c.input;
-        turns = turns i;
-        opened = c.opened;
-      } in
+      output = c.output;
+      halt = halt i;
+      taken = length input - length c.input;
+      turns = turns i;
+      opened = c.opened;
+    } in
     (l.count, ap (reported input) l.runs ∙ shows)
 met o y input r m (over n l d) fine =
     let c = r.control in
@@ -127,12 +124,12 @@ met o y input r m (over n l d) fine =
     let turns : n.counts.turns ≡ y.turns - c.turns = omega arith in
     let halt : halted n.stop ≡ c.halt = ap halted d.machine ∙ sym d.core in
     let shows : reported input n ≡ report input y.turns c = λ i. record {
-        output = d.output i;
-        halt = halt i;
-        taken = length input - length (d.input i);
-        turns = turns i;
-        opened = d.opened i;
-      } in
+      output = d.output i;
+      halt = halt i;
+      taken = length input - length (d.input i);
+      turns = turns i;
+      opened = d.opened i;
+    } in
     (l.count, ap (reported input) l.runs ∙ shows)
 met o y input r m (wrong h e w) fine = absurd (fine h e w)
 

@@ -1,36 +1,27 @@
 -- Single instructions on words of the running body: what each leaves, and where the machine then is.
-use Rattle.std.proofs.Common.{◌≡◌, ◌≢◌, ◌⊎◌, inl, inr, ⊎_elim, ℕ, zero, suc, ◌+◌, ◌-◌, ◌<◌, ◌≤◌, Bool, true, false, List, [], ◌∷◌, ◌++◌, Option, Some, None, ℤ, refl, sym, ap, ◌∙◌, subst, arith, slice_get, cond}
-use Rattle.std.proofs.lemmas.Bool.{cond_both, and_parts, eqb-true, and_from, eq-eqb, cases_eq, true≢false}
-use Rattle.hy_base.specs.declared.numbers.IntegerType.TheVariants.{Int, Sized}
-use Rattle.hy_core.specs.Plain as plain
-use Rattle.hy_core.specs.Values.{Val, Number, Truth, Tuple, Product, Array, is_whole, get, put}
-use Rattle.hy_core.specs.Values as val
+use Rattle.std.proofs.Common.{◌≡◌, ◌≢◌, ◌⊎◌, inl, inr, ⊎_elim, ℕ, suc, ◌+◌, ◌-◌, ◌≤◌, true, false, Some, ℤ, refl, sym, ap, ◌∙◌, subst, arith}
+use Rattle.std.proofs.lemmas.Bool.{cases_eq}
 use Rattle.hy_core.specs.Memory.{Key, key_eq, set_at, target_of, lending}
 use Rattle.hy_core.specs.Memory as memory
-use Rattle.hy_core.specs.Runs.{Interaction, Fetch, Perform, interpret}
-use Rattle.hy_core.specs.Runs as runs
-use Rattle.hy_core.specs.Control.{Control, Setting, NotSet, key, read, write, with_some, with_set, local_type, form}
+use Rattle.hy_core.specs.Control.{Control, key, form}
 use Rattle.hy_object.specs.declared.instr.Instr.{Instr}
 use Rattle.hy_object.specs.declared.instr.Instr.TheVariants as instr
 use Rattle.hy_object.specs.declared.object.Object.{Object}
 use Rattle.hy_object.specs.Checks.{is_name, is_set, puts, next, store, transfers, only}
 use Rattle.hy_object.specs.Checks as checks
 use Rattle.hy_object.specs.States.{Cell, Unset, Word, Range, State, nth, with_cells, window, moved}
-use Rattle.hy_object.specs.Words.{Is}
 use Rattle.hy_object.specs.Steps.{does}
-use Rattle.hy_lower.specs.Frames.{Frame}
 use Rattle.hy_lower.specs.Places.{own}
-use Rattle.hy_lower_laws.proofs.Stands.{Goes, At, HasAt}
-use Rattle.hy_lower_laws.proofs.OwnWords.{IsPlain, IsOwn, at_cells, const_is, copy_is, move_is}
-use Rattle.hy_lower_laws.proofs.Simulates.{Body, IsBody, IsWord, Cells, CellIs, Holds, Linked, mach, plain_of, Leads, leads_one, Follows, goes_on, wrong, not_set}
-use Rattle.hy_lower_laws.proofs.Simulates.{leads_follows, settles}
+use Rattle.hy_lower_laws.proofs.OwnWords.{IsOwn, at_cells, const_is, copy_is, move_is}
+use Rattle.hy_lower_laws.proofs.Simulates.{Body, IsBody, Cells, CellIs, Holds, Linked, mach, plain_of, Leads, leads_one}
 
 -- one cell of the frame is another, and all others are the same
 pub record Puts (cells new : Cells) (frame w : ℕ) (d : Cell) : Type 0 where
   pub here : new frame w ≡ d
   pub there : (block at : ℕ) → (block ≡ frame → at ≡ w → ⊥) → new block at ≡ cells block at
 
-pub puts_one : (cells : Cells) (frame w : ℕ) (new : ℕ → Cell) → Puts cells (with_cells cells (record { block = frame; from = w; words = 1 }) new) frame w (new 0)
+pub puts_one : (cells : Cells) (frame w : ℕ) (new : ℕ → Cell) → Puts cells (with_cells cells (record { block = frame; from = w; words = 1 }) new) frame w
+    (new 0)
 puts_one cells frame w new =
     let r : Range = record { block = frame; from = w; words = 1 } in
     let z : w - w ≡ 0 = omega arith in
@@ -116,7 +107,21 @@ module _ (o : Object) (y : Body) (is : IsBody y) (c : Control) (s : memory.Cells
 
   -- other cells, which hold the same of the locals
   pub linked_with : (new : Cells) → Holds y c.now.id x.now.frame s new → Linked y c s (record x { cells = new })
-  linked_with new h = record { going = k.going; stop = k.stop; core = k.core; object = k.object; closed = k.closed; own = k.own; holds = h; turns = k.turns; core_alone = k.core_alone; alone = k.alone; role = k.role; slots = k.slots }
+  linked_with new h = record {
+    going = k.going;
+    stop = k.stop;
+    core = k.core;
+    object = k.object;
+    closed = k.closed;
+    own = k.own;
+    holds = h;
+    turns =
+        k.turns;
+    core_alone = k.core_alone;
+    alone = k.alone;
+    role = k.role;
+    slots = k.slots;
+  }
 
   pub nameless_put : (new : Cells) (w : ℕ) (d : Cell) → Puts x.cells new x.now.frame w d → is_name d ≡ false → (block at : ℕ) → is_name (new block at) ≡ false
   nameless_put new w d p e block at =

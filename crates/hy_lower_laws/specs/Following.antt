@@ -1,5 +1,5 @@
 -- The machine follows the core: its state is built from the core's and from what it has besides.
-use Rattle.std.specs.Prelude.{◌≡◌, ℕ, ◌+◌, ◌<◌, ◌≤◌, Bool, true, false, List, [], Option, Some, None, ℤ, slice_get}
+use Rattle.std.specs.Prelude.{◌≡◌, ℕ, ◌+◌, ◌<◌, ◌≤◌, false, [], Some, None, slice_get}
 use Rattle.hy_base.specs.declared.numbers.IntegerType.TheVariants.{Int, Sized}
 use Rattle.hy_base.specs.declared.run.End.{End}
 use Rattle.hy_types.specs.declared.kinds.TyId.{TyId}

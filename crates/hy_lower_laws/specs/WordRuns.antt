@@ -2,7 +2,7 @@
 use Rattle.std.specs.Prelude.{◌≡◌, ℕ, List, Some, None, slice_get}
 use Rattle.hy_core.specs.Plain.{Fun, Core}
 use Rattle.hy_core.specs.Memory.{lending, no_cells}
-use Rattle.hy_core.specs.Control.{Control, GivesUp}
+use Rattle.hy_core.specs.Control.{GivesUp}
 use Rattle.hy_core.specs.Meaning.{Run, lent, setting, state}
 use Rattle.hy_core.specs.Ready.{Ready}
 use Rattle.hy_object.specs.declared.object.Object.{Object}

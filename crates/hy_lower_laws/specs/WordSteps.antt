@@ -1,8 +1,8 @@
 -- Statements on whole locals of one word, numbers of type Int and truth values, and of none.
-use Rattle.std.specs.Prelude.{◌≡◌, ◌⊎◌, ℕ, zero, suc, List, [], ◌∷◌, Option, Some, None, ℤ, pos, slice_get}
+use Rattle.std.specs.Prelude.{◌≡◌, ◌⊎◌, ℕ, List, [], ◌∷◌, Option, Some, None, ℤ, pos, slice_get}
 use Rattle.hy_base.specs.declared.numbers.IntegerType.TheVariants.{Int}
 use Rattle.hy_core.specs.Plain.{Place, Operator, Add, Sub, Mul, Div, Rem, Neg, Convert, Eq, Lt, Le, Not, NewArray, Push, Pop, Swap, Count, FreeArray, Print}
-use Rattle.hy_core.specs.Plain.{Read, Check, Stmts, Done, Then, Stmt, Built, Set, Lend, Close, Move, Copy, Drop, Call, Project, Slide, Yield, If, While, Break}
+use Rattle.hy_core.specs.Plain.{Read, Check, Done, Then, Stmt, Built, Set, Lend, Close, Move, Copy, Drop, Call, Project, Slide, Yield, If, While, Break}
 use Rattle.hy_core.specs.Plain.{Continue, Leave}
 use Rattle.hy_core.specs.Memory.{lending}
 use Rattle.hy_core.specs.Memory as memory

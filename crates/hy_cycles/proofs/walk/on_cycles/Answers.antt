@@ -9,7 +9,8 @@ use Rattle.hy_cycles.proofs.walk.on_cycles.Goals as goal
 pub visit-requires-clause-nodes : goal.visit-requires-clause-nodes
 visit-requires-clause-nodes c node k lt =
     let long = graph_long c.args.edges.now in
-    let known = c.requires node (at (next (graph_of c.args.edges.now) node) k) (edge_is (next (graph_of c.args.edges.now) node) k _ lt (λ i. at (next (graph_of c.args.edges.now) node) k)) in
+    let known = c.requires node (at (next (graph_of c.args.edges.now) node) k) (edge_is (next (graph_of c.args.edges.now) node) k _ lt
+    (λ i. at (next (graph_of c.args.edges.now) node) k)) in
     omega (arith, known, long)
 
 pub returns-clause-tells : goal.returns-clause-tells

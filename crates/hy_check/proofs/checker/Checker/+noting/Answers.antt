@@ -22,7 +22,8 @@ note_written-returns-in_ok-id-in-Array-clause-learns t c =
     let at = placed c.args.written.now.span c.args.written.now.node in
     let element = type_of c.get.result.now in
     let is : type_of c.args.written.now ≡ T.ArrayType element at =
-    ap (λ kind. type_kind_of kind at) c.in-Array.is ∙ array_type_is c.in-Array.element at ∙ ap (λ (e : TypeExp). T.ArrayType (type_of e) at) (sym c.get.ensures) in
+    ap (λ kind. type_kind_of kind at) c.in-Array.is ∙ array_type_is c.in-Array.element at ∙ ap
+    (λ (e : TypeExp). T.ArrayType (type_of e) at) (sym c.get.ensures) in
     let type : Y.Array (written_type source element) ≡ Y.Array (Y.type_of c.note_written.new.self.types c.in_ok-element-in-Array.element) =
     ap Y.Array (sym c.in_ok-element-in-Array.ensures.number.is) in
     after_parts (known_of c.args.self.now) (known_of c.note_written.new.self) (known_of c.note_type.new.self) (type_facts source element)
@@ -35,7 +36,8 @@ note_written-returns-in_ok-id-in-Tuple-clause-learns t c =
     let at = placed c.args.written.now.span c.args.written.now.node in
     let parts = types_of c.as_slice.result.now in
     let is : type_of c.args.written.now ≡ T.TupleType parts at =
-    ap (λ kind. type_kind_of kind at) c.in-Tuple.is ∙ tuple_type_is c.in-Tuple.parts at ∙ ap (λ (list : List TypeExp). T.TupleType (types_of list) at) (sym c.as_slice.ensures) in
+    ap (λ kind. type_kind_of kind at) c.in-Tuple.is ∙ tuple_type_is c.in-Tuple.parts at ∙ ap
+    (λ (list : List TypeExp). T.TupleType (types_of list) at) (sym c.as_slice.ensures) in
     let type : Y.Tuple (written_types source parts) ≡ Y.Tuple (plain_types (Y.type_of c.note_all_written.new.self.types) c.in_ok-parts-in-Tuple.parts) =
     ap Y.Tuple (sym c.in_ok-parts-in-Tuple.ensures.numbers.are) in
     after_parts (known_of c.args.self.now) (known_of c.note_all_written.new.self) (known_of c.note_type-in-Tuple.new.self) (types_facts source parts)

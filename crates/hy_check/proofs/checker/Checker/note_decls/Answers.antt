@@ -9,9 +9,11 @@ loop-decl-init c = each_start decl_of (λ source (decl : T.Decl). decl_facts sou
 
 pub loop-decl-preserved : goal.loop-decl-preserved
 loop-decl-preserved c =
-    each_more decl_of (λ source (decl : T.Decl). decl_facts source decl.kind) c.args.decls.now c.args.self.now c.loop-decl.self c.note_decl.new.self c.loop-decl.decl-index c.decl-item.result c.decl-item.is c.loop-decl-test.true
+    each_more decl_of (λ source (decl : T.Decl). decl_facts source decl.kind)
+    c.args.decls.now c.args.self.now c.loop-decl.self c.note_decl.new.self c.loop-decl.decl-index c.decl-item.result c.decl-item.is c.loop-decl-test.true
     c.loop-decl.invariant c.in_ok-note_decl.ensures.right c.in_ok-note_decl.ensures.learns
 
 pub returns-clause-learns : goal.returns-clause-learns
 returns-clause-learns c =
-    each_end decl_of (λ source (decl : T.Decl). decl_facts source decl.kind) c.args.decls.now c.args.self.now c.loop-decl.self c.loop-decl.decl-index c.loop-decl-test.false c.loop-decl.invariant
+    each_end decl_of (λ source (decl : T.Decl). decl_facts source decl.kind)
+    c.args.decls.now c.args.self.now c.loop-decl.self c.loop-decl.decl-index c.loop-decl-test.false c.loop-decl.invariant

@@ -9,9 +9,12 @@ loop-member-init c = each_start member_of (λ source (member : T.Member). kind_f
 
 pub loop-member-preserved : goal.loop-member-preserved
 loop-member-preserved c =
-    each_more member_of (λ source (member : T.Member). kind_facts source member.kind) c.args.members.now c.args.self.now c.loop-member.self c.note_member.new.self c.loop-member.member-index c.member-item.result c.member-item.is c.loop-member-test.true
+    each_more member_of (λ source (member : T.Member). kind_facts source member.kind)
+    c.args.members.now c.args.self.now c.loop-member.self c.note_member.new.self c.loop-member.member-index c.member-item.result c.member-item.is
+    c.loop-member-test.true
     c.loop-member.invariant c.in_ok-note_member.ensures.right c.in_ok-note_member.ensures.learns
 
 pub returns-clause-learns : goal.returns-clause-learns
 returns-clause-learns c =
-    each_end member_of (λ source (member : T.Member). kind_facts source member.kind) c.args.members.now c.args.self.now c.loop-member.self c.loop-member.member-index c.loop-member-test.false c.loop-member.invariant
+    each_end member_of (λ source (member : T.Member). kind_facts source member.kind)
+    c.args.members.now c.args.self.now c.loop-member.self c.loop-member.member-index c.loop-member-test.false c.loop-member.invariant

@@ -9,7 +9,8 @@ loop-p-init c = each_start param_of param_facts c.args.params.now c.args.self.no
 
 pub loop-p-preserved : goal.loop-p-preserved
 loop-p-preserved c =
-    each_more param_of param_facts c.args.params.now c.args.self.now c.loop-p.self c.note_param.new.self c.loop-p.p-index c.p-item.result c.p-item.is c.loop-p-test.true
+    each_more param_of param_facts
+    c.args.params.now c.args.self.now c.loop-p.self c.note_param.new.self c.loop-p.p-index c.p-item.result c.p-item.is c.loop-p-test.true
     c.loop-p.invariant c.in_ok-note_param.ensures.right c.in_ok-note_param.ensures.learns
 
 pub returns-clause-learns : goal.returns-clause-learns
